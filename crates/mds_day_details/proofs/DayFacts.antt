@@ -30,8 +30,7 @@ use Rattle.mds_selects.specs.Shown.{SaysDay}
 use Rattle.mds_selects.proofs.Listed.{day_on, on_day}
 use Rattle.mds_selects.proofs.MemberLemmas.{place_of}
 use Rattle.mds_selects.proofs.TypedRows.{begins_at, begins_by, optional_back, small, small_option, some_cell}
-use Rattle.mds_pack_rows.specs.FormLayout.{forms_layout, world_4}
-use Rattle.mds_pack_rows.specs.FormTables.{schema_4}
+use Rattle.mds_pack_rows.specs.Current.{current_layout, current_schema, current_world}
 use Rattle.mds_day_details.specs.Shown.{AreLatestFirst, AreLeft, HasRow, IsBelow, IsDetailRow, IsTold, ShowsDaysWith, ShowsDetails, ShowsNearest, ShowsRange, TellsDays, TellsFirst, details_columns, range_columns, shown_day, shown_details}
 use Rattle.mds_day_details.proofs.DetailCells.{detail_in, detail_is, named_in, row_cells}
 
@@ -55,15 +54,15 @@ details_below : (a b : Row) (d e : Detail) → natural_at a 0 ≡ d.moment → n
     → is_le (ordering_then (nat_cmp d.moment e.moment) (details_cmp d.details e.details)) ≡ true
 details_below a b d e m n p q below = (λ i. is_le (ordering_then (nat_cmp (sym m i) (sym n i)) (details_cmp (sym p i) (sym q i)))) ∙ below
 
-module _ (trees : Trees) (sound : IsSound schema_4 trees) where
+module _ (trees : Trees) (sound : IsSound current_schema trees) where
   -- ---- current details
 
   module _ (s : Stream) where
     -- details of a day have a row
-    row_of : (day : ℕ) → day < 2 ^ 63 → (d : Detail) → DetailIs d ∈ world_4 trees → d.stream ≡ s → d.day ≡ day
+    row_of : (day : ℕ) → day < 2 ^ 63 → (d : Detail) → DetailIs d ∈ current_world trees → d.stream ≡ s → d.day ≡ day
         → (r : Row) × Member r (trees daydetail_tree) × (detail_in r ≡ d) × Begins (day_cells s day) r
     row_of day low d h on is =
-        let n = (named_in forms_layout refl trees d).0 h in
+        let n = (named_in current_layout refl trees d).0 h in
         let same = detail_is n.0 d n.2 in (
           n.0,
           n.1,
@@ -74,7 +73,7 @@ module _ (trees : Trees) (sound : IsSound schema_4 trees) where
 
     module _ (day : ℕ) (low : day < 2 ^ 63) where
       -- a day up to this one that has details has a row
-      has_row : (other : Detail) → IsUpto (world_4 trees) s day other → HasRow trees (day_cells s other.day)
+      has_row : (other : Detail) → IsUpto (current_world trees) s day other → HasRow trees (day_cells s other.day)
       has_row other upto =
           let to = upto.2 in
           let r = row_of other.day (omega (arith, low, to)) other upto.0 upto.1 refl in
@@ -82,7 +81,7 @@ module _ (trees : Trees) (sound : IsSound schema_4 trees) where
 
       -- where no row is shown, no details hold
       pub finds_none : (found : List Row) → ShowsNearest s day trees found → SaysDay found None → (details : DetailsValue)
-          → details ≡ no_details → IsCurrentDetails (world_4 trees) s day details
+          → details ≡ no_details → IsCurrentDetails (current_world trees) s day details
       finds_none found shows none details is =
           let no_row = subst (ShowsNearest s day trees) none shows in
           inr ((λ other upto. no_row other.day upto.2 (has_row other upto)), is)
@@ -90,20 +89,20 @@ module _ (trees : Trees) (sound : IsSound schema_4 trees) where
     module _ (of : ℕ) (low : of < 2 ^ 63) (rows : List Row) (shows : Selects daydetail_tree (day_cells s of) details_columns trees rows) where
       -- a row that is shown tells details of the day
       told : (x : Row) → Member x rows
-          → (d : Detail) × IsUpto (world_4 trees) s of d × (d.day ≡ of) × (natural_at x 0 ≡ d.moment) × (shown_details x ≡ d.details)
+          → (d : Detail) × IsUpto (current_world trees) s of d × (d.day ≡ of) × (natural_at x 0 ≡ d.moment) × (shown_details x ≡ d.details)
       told x m =
           let r = (shows x).0 m in
           let at = on_day s of r.0 r.2 in
           let day = at.1 in (
             detail_in r.0,
-            ((named_in forms_layout refl trees (detail_in r.0)).1 (r.0, r.1, refl), at.0, omega (arith, day)),
+            ((named_in current_layout refl trees (detail_in r.0)).1 (r.0, r.1, refl), at.0, omega (arith, day)),
             day,
             ap (λ y. natural_at y 0) r.3,
             ap shown_details r.3,
           )
 
       -- details of the day are told by a row that is shown
-      tells : (d : Detail) → IsUpto (world_4 trees) s of d → d.day ≡ of
+      tells : (d : Detail) → IsUpto (current_world trees) s of d → d.day ≡ of
           → (x : Row) × Member x rows × (natural_at x 0 ≡ d.moment) × (shown_details x ≡ d.details)
       tells d upto is =
           let r = row_of of low d upto.0 upto.1 is in
@@ -112,7 +111,7 @@ module _ (trees : Trees) (sound : IsSound schema_4 trees) where
 
       -- the first of them tells the greatest of the day
       greatest : (list : List Row) → rows ≡ list → AreLatestFirst list → (details : DetailsValue) → TellsFirst list details
-          → (d : Detail) × IsGreatestOfDay (world_4 trees) s of d × (details ≡ d.details)
+          → (d : Detail) × IsGreatestOfDay (current_world trees) s of d × (details ≡ d.details)
       greatest [] is sorted details first = absurd first
       greatest (row ∷ rest) is sorted details first =
           let here = told row (subst (Member row) (sym is) (inl refl)) in
@@ -130,19 +129,19 @@ module _ (trees : Trees) (sound : IsSound schema_4 trees) where
           )
 
     pub finds_own : (day : ℕ) → day < 2 ^ 63 → (rows : List Row) → ShowsDetails s day trees rows → All (λ row. IsDetailRow row) rows
-        → (details : DetailsValue) → TellsFirst rows details → IsCurrentDetails (world_4 trees) s day details
+        → (details : DetailsValue) → TellsFirst rows details → IsCurrentDetails (current_world trees) s day details
     finds_own day low rows all lawful details first =
         let it = greatest day low rows all.0 rows refl (all.1 lawful) details first in
-        (nearest (world_4 trees) s day details).1 (inl (day, it.0, omega arith, it.1, (λ other upto. upto.2), it.2))
+        (nearest (current_world trees) s day details).1 (inl (day, it.0, omega arith, it.1, (λ other upto. upto.2), it.2))
 
     pub finds_current : (day : ℕ) → day < 2 ^ 63 → (found : List Row) → ShowsNearest s day trees found → (of : ℕ)
         → SaysDay found (Some of) → (rows : List Row) → ShowsDetails s of trees rows → All (λ row. IsDetailRow row) rows
-        → (details : DetailsValue) → TellsFirst rows details → IsCurrentDetails (world_4 trees) s day details
+        → (details : DetailsValue) → TellsFirst rows details → IsCurrentDetails (current_world trees) s day details
     finds_current day low found shows of says rows all lawful details first =
         let near = subst (ShowsNearest s day trees) says.2 shows of says.3 in
         let to = near.0 in
         let it = greatest of (omega (arith, low, to)) rows all.0 rows refl (all.1 lawful) details first in
-        (nearest (world_4 trees) s day details).1
+        (nearest (current_world trees) s day details).1
         (inl (of, it.0, to, it.1, (λ other upto. near.2 other.day upto.2 (has_row day low other upto)), it.2))
 
     -- ---- the current details of the days of a range
@@ -151,7 +150,7 @@ module _ (trees : Trees) (sound : IsSound schema_4 trees) where
         (told : List (ℕ × DetailsValue)) (tells : TellsDays rows told) where
       -- a row that is shown tells details of its day, which is in the range
       of_row : (x : Row) → Member x rows
-          → (d : Detail) × (DetailIs d ∈ world_4 trees) × (d.stream ≡ s) × (d.day ≡ shown_day x) × (first ≤ d.day) × (d.day ≤ last)
+          → (d : Detail) × (DetailIs d ∈ current_world trees) × (d.stream ≡ s) × (d.day ≡ shown_day x) × (first ≤ d.day) × (d.day ≤ last)
           × (natural_at x 0 ≡ d.moment) × (shown_details x ≡ d.details)
       of_row x m =
           let r = (shows.0 x).0 m in
@@ -160,7 +159,7 @@ module _ (trees : Trees) (sound : IsSound schema_4 trees) where
           let from = r.2.1 in
           let to = r.2.2 in (
             detail_in r.0,
-            (named_in forms_layout refl trees (detail_in r.0)).1 (r.0, r.1, refl),
+            (named_in current_layout refl trees (detail_in r.0)).1 (r.0, r.1, refl),
             at.0,
             sym (ap shown_day r.3),
             omega (arith, day, from),
@@ -170,7 +169,7 @@ module _ (trees : Trees) (sound : IsSound schema_4 trees) where
           )
 
       -- details of a day of the range are told by a row that is shown
-      has_shown : (d : Detail) → DetailIs d ∈ world_4 trees → d.stream ≡ s → first ≤ d.day → d.day ≤ last
+      has_shown : (d : Detail) → DetailIs d ∈ current_world trees → d.stream ≡ s → first ≤ d.day → d.day ≤ last
           → (x : Row) × Member x rows × (shown_day x ≡ d.day) × (natural_at x 0 ≡ d.moment) × (shown_details x ≡ d.details)
       has_shown d h of from to =
           let r = row_of d.day (omega (arith, low, to)) d h of refl in
@@ -183,14 +182,14 @@ module _ (trees : Trees) (sound : IsSound schema_4 trees) where
           )
 
       current : (entry : ℕ × DetailsValue) → IsTold rows entry
-          → (first ≤ entry.0) × (entry.0 ≤ last) × IsCurrentDetails (world_4 trees) s entry.0 entry.1
+          → (first ≤ entry.0) × (entry.0 ≤ last) × IsCurrentDetails (current_world trees) s entry.0 entry.1
       current entry it =
           let here = of_row it.0 it.1 in
           let d = here.0 in
           let day : d.day ≡ entry.0 = here.3 ∙ it.2 in
           let from = here.4 in
           let to = here.5 in
-          let greatest : IsGreatestOfDay (world_4 trees) s entry.0 d = record {
+          let greatest : IsGreatestOfDay (current_world trees) s entry.0 d = record {
             held = (here.1, here.2, omega (arith, day));
             here = day;
             greatest = λ other upto same.
@@ -200,11 +199,11 @@ module _ (trees : Trees) (sound : IsSound schema_4 trees) where
           } in (
             omega (arith, day, from),
             omega (arith, day, to),
-            (nearest (world_4 trees) s entry.0 entry.1).1
+            (nearest (current_world trees) s entry.0 entry.1).1
                 (inl (entry.0, d, omega arith, greatest, (λ other upto. upto.2), sym it.3 ∙ here.7)),
           )
 
-      pub finds_between : AreDetailsBetween (world_4 trees) s first last told
+      pub finds_between : AreDetailsBetween (current_world trees) s first last told
       finds_between = record {
         each = λ entry m. current entry (tells.each entry m);
         all = λ d h of from to.
@@ -217,7 +216,7 @@ module _ (trees : Trees) (sound : IsSound schema_4 trees) where
 
   module _ (d : DetailDays) where
     -- a row of the details names them
-    row_has : (day : ℕ) → HasRow trees (detail_cells (detail_on d day)) → DetailIs (detail_on d day) ∈ world_4 trees
+    row_has : (day : ℕ) → HasRow trees (detail_cells (detail_on d day)) → DetailIs (detail_on d day) ∈ current_world trees
     row_has day has =
         let r = has.0 in
         let key = detail_cells (detail_on d day) in
@@ -231,7 +230,7 @@ module _ (trees : Trees) (sound : IsSound schema_4 trees) where
         let datastream : text_at r 7 ≡ d.details.datastream = ap bytes (at 6 (omega arith)) in
         let meter : text_at r 8 ≡ d.details.meter = ap bytes (at 7 (omega arith)) in
         let next : optional_at r 9 ≡ d.details.next = ap (λ v. optional (id_in v)) (at 8 (omega arith)) ∙ optional_back d.details.next in
-        (named_in forms_layout refl trees (detail_on d day)).1 (
+        (named_in current_layout refl trees (detail_on d day)).1 (
           r,
           has.1,
           (λ i. DetailIs (record {
@@ -250,9 +249,9 @@ module _ (trees : Trees) (sound : IsSound schema_4 trees) where
 
     module _ (moment : d.moment < 2 ^ 63) (next : (n : ℕ) → d.details.next ≡ Some n → n < 2 ^ 63) where
       -- and they have one
-      has_details : (day : ℕ) → day < 2 ^ 63 → DetailIs (detail_on d day) ∈ world_4 trees → HasRow trees (detail_cells (detail_on d day))
+      has_details : (day : ℕ) → day < 2 ^ 63 → DetailIs (detail_on d day) ∈ current_world trees → HasRow trees (detail_cells (detail_on d day))
       has_details day low h =
-          let n = (named_in forms_layout refl trees (detail_on d day)).0 h in
+          let n = (named_in current_layout refl trees (detail_on d day)).0 h in
           let r = n.0 in
           let same = detail_is r (detail_on d day) n.2 in
           let it = row_cells trees sound r n.1 in (
@@ -301,7 +300,7 @@ module _ (trees : Trees) (sound : IsSound schema_4 trees) where
           → ((day : ℕ) → Member day asked ↔ Member day d.days.items)
           → ((day : ℕ) → Member day asked → (first ≤ day) × (day ≤ last))
           → (rows : List Row) → ShowsDaysWith d first last trees rows → AreLeft asked rows left → AllPairs (λ a b. a < b) left
-          → AreDaysWithout (world_4 trees) d left
+          → AreDaysWithout (current_world trees) d left
       finds_without first last low asked left same within rows shows are up = record {
         each = λ day. (
           (λ m.
@@ -318,7 +317,7 @@ module _ (trees : Trees) (sound : IsSound schema_4 trees) where
                 let t = (shows r).0 here in
                 let cells : number_cell t.0 ≡ number_cell day = sym (ap (λ x. column x 0) t.4) ∙ is in
                 let of : t.0 ≡ day = cc in
-                p.1 (subst (λ n. DetailIs (detail_on d n) ∈ world_4 trees) of (row_has t.0 t.3))),
+                p.1 (subst (λ n. DetailIs (detail_on d n) ∈ current_world trees) of (row_has t.0 t.3))),
           )),
         );
         ascending = up;

@@ -26,8 +26,7 @@ use Rattle.mds_selects.proofs.SelectLemmas.{Picks}
 use Rattle.mds_selects.proofs.SelectTexts.{columns_at}
 use Rattle.mds_selects.proofs.TypedLemmas.{IsAlike, both}
 use Rattle.mds_selects.proofs.TypedRows.{begins_at, begins_by, some_cell}
-use Rattle.mds_pack_rows.specs.FormLayout.{forms_layout}
-use Rattle.mds_pack_rows.specs.FormTables.{schema_4}
+use Rattle.mds_pack_rows.specs.Current.{current_layout, current_schema}
 use Rattle.mds_day_details.specs.Shown.{ShowsDaysWith, days_cells}
 use Rattle.mds_day_details.proofs.DetailCells.{HasCells, row_cells}
 use Rattle.mds_day_details.proofs.DetailTexts.{select_days_with, select_days_with_is, select_days_with_plain, with_tests}
@@ -133,7 +132,7 @@ module _ (d : DetailDays) (first last : ℕ) (row : Row) where
         (cells_equal (Text d.details.meter) (column row 8) it.meter (at 7 (omega arith)))
         (cells_equal (optional_cell d.details.next) (column row 9) (next_alike d.details.next row it.next) (at 8 (omega arith)))
 
-module _ (d : DetailDays) (first last : ℕ) (db : Trees) (sound : IsSound schema_4 db) where
+module _ (d : DetailDays) (first last : ℕ) (db : Trees) (sound : IsSound current_schema db) where
   says_days : (rows : List Row) → Picks daydetail_tree with_tests (columns_at (3 ∷ [])) [] db (days_cells d first last) rows
       → ShowsDaysWith d first last db rows
   says_days rows p x =
@@ -153,8 +152,8 @@ module _ (d : DetailDays) (first last : ℕ) (db : Trees) (sound : IsSound schem
 
 pub finds_days : {V : Type 0} (d : DetailDays) (first last : ℕ) (old new : State) (items : V → List Row) (r : Result V Error)
     → IfOk r (λ v. Shown select_days_with (days_cells d first last) old new (items v))
-    → IfOk r (λ v. FindsOf forms_layout old new (λ trees. ShowsDaysWith d first last trees (items v)))
+    → IfOk r (λ v. FindsOf current_layout old new (λ trees. ShowsDaysWith d first last trees (items v)))
 finds_days d first last old new items r h =
-    finds forms_layout select_days_with select_days_with_plain daydetail_tree with_tests (columns_at (3 ∷ [])) [] _ select_days_with_is
+    finds current_layout select_days_with select_days_with_plain daydetail_tree with_tests (columns_at (3 ∷ [])) [] _ select_days_with_is
     (λ db. refl) old new (days_cells d first last) items
     (λ rows trees. ShowsDaysWith d first last trees rows) (λ db sound rows p. says_days d first last db sound rows p) r h

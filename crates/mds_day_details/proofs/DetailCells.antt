@@ -21,18 +21,18 @@ use Rattle.mds_selects.proofs.Named.{Names, of_detail}
 use Rattle.mds_selects.proofs.QueryLemmas.{kept}
 use Rattle.mds_selects.proofs.TypedLemmas.{AreFor, AreTyped, alike, both}
 use Rattle.mds_selects.proofs.TypedRows.{HasKeyCells}
+use Rattle.mds_pack_rows.specs.Current.{current_more, current_schema}
 use Rattle.mds_pack_rows.specs.DailyLayout.{daily_layout, daily_own, day_details, world_3}
 use Rattle.mds_pack_rows.specs.DailyTables.{daydetail_table}
-use Rattle.mds_pack_rows.specs.FormTables.{formed, schema_4}
 use Rattle.mds_pack_rows.specs.PackFacts.{facts_from, minutes_of, pack_facts, pack_versions, readings_in}
 use Rattle.mds_pack_rows.specs.PackTables.{pack_tree}
 
 -- ---- the types of the columns
 
-pub row_typed : (db : Trees) → IsSound schema_4 db → (row : Row) → Member row (db daydetail_tree) → AreTyped daydetail_table.columns row
+pub row_typed : (db : Trees) → IsSound current_schema db → (row : Row) → Member row (db daydetail_tree) → AreTyped daydetail_table.columns row
 row_typed db sound row m =
     let fits = (sound.obeys.rules Datatype).1.1.1.1.1.1.1.1.1.0 in
-    let it = kept formed db sound row daydetail_table (db daydetail_tree) fits (sound.obeys.rules NotNull).1.1.1.1.1.1.1.1.1.0 m in
+    let it = kept current_more db sound row daydetail_table (db daydetail_tree) fits (sound.obeys.rules NotNull).1.1.1.1.1.1.1.1.1.0 m in
     record { typed = (both _ _ it.0).0; present = it.1 }
 
 pub day_for : (s : Stream) (day : ℕ) → AreFor daydetail_table.columns (day_cells s day)
@@ -56,7 +56,7 @@ any_for : AreFor daydetail_table.columns (detail_cells any_detail)
 any_for =
     ((codes "nmi", refl), ((codes "suffix", refl), ((codes "day", refl), ((codes "moment", refl), ((codes "configuration", refl), ((codes "register", refl), ((codes "datastream", refl), ((codes "meter", refl), ((codes "next", refl), tt)))))))))
 
-pub row_cells : (db : Trees) → IsSound schema_4 db → (row : Row) → Member row (db daydetail_tree) → HasCells row
+pub row_cells : (db : Trees) → IsSound current_schema db → (row : Row) → Member row (db daydetail_tree) → HasCells row
 row_cells db sound row m =
     let it = alike daydetail_table.columns (detail_cells any_detail) row any_for (row_typed db sound row m) in
     let rest = it.1.1.1 in

@@ -32,9 +32,8 @@ use Rattle.mds_selects.proofs.MemberLemmas.{all_of, filter_in, moved, second, se
 use Rattle.mds_selects.proofs.QueryLemmas.{finds}
 use Rattle.mds_selects.proofs.SelectLemmas.{Picks, passes, shows}
 use Rattle.mds_selects.proofs.SelectTexts.{columns_at}
-use Rattle.mds_pack_rows.specs.FormLayout.{forms_layout}
+use Rattle.mds_pack_rows.specs.Current.{current_layout, current_schema}
 use Rattle.mds_pack_rows.specs.DailyTables.{daydetail_table}
-use Rattle.mds_pack_rows.specs.FormTables.{schema_4}
 use Rattle.mds_day_details.specs.Shown.{AreLatestFirst, IsDetailRow, ShowsDetails, details_columns, shown_details}
 use Rattle.mds_day_details.proofs.DetailCells.{day_for, row_cells, row_typed}
 use Rattle.mds_day_details.proofs.DetailTexts.{details_fall, details_query, select_details, select_details_is, select_details_plain}
@@ -129,7 +128,7 @@ module _ (cmp : Output → Output → Ordering)
 
 -- ---- the query
 
-module _ (s : Stream) (day : ℕ) (db : Trees) (sound : IsSound schema_4 db) where
+module _ (s : Stream) (day : ℕ) (db : Trees) (sound : IsSound current_schema db) where
   abbrev key_tests : List Term
   key_tests = tests 0 (day_cells s day)
 
@@ -164,8 +163,8 @@ module _ (s : Stream) (day : ℕ) (db : Trees) (sound : IsSound schema_4 db) whe
 
 pub finds_details : {V : Type 0} (s : Stream) (day : ℕ) (old new : State) (items : V → List Row) (r : Result V Error)
     → IfOk r (λ v. Shown select_details (day_cells s day) old new (items v))
-    → IfOk r (λ v. FindsOf forms_layout old new (λ trees. ShowsDetails s day trees (items v)))
+    → IfOk r (λ v. FindsOf current_layout old new (λ trees. ShowsDetails s day trees (items v)))
 finds_details s day old new items r h =
-    finds forms_layout select_details select_details_plain daydetail_tree (tests 0 (day_cells s day)) (columns_at details_columns)
+    finds current_layout select_details select_details_plain daydetail_tree (tests 0 (day_cells s day)) (columns_at details_columns)
     details_fall _ select_details_is (λ db. refl) old new (day_cells s day) items
     (λ rows trees. ShowsDetails s day trees rows) (λ db sound rows p. says_details s day db sound rows p) r h

@@ -13,7 +13,7 @@ use Rattle.sqlite_value.specs.declared.keys.Key.{Key}
 use Rattle.mds_tables.specs.Tables.{daydetail_tree}
 use Rattle.mds_selects.specs.Shown.{falling, rising}
 use Rattle.mds_selects.proofs.SelectTexts.{columns_at, equals, first_of, from_one}
-use Rattle.mds_pack_rows.specs.FormTables.{schema_4}
+use Rattle.mds_pack_rows.specs.Current.{current_schema}
 use Rattle.mds_day_details.specs.Shown.{details_columns, range_columns}
 
 -- a column is at least, and at most, the parameter
@@ -37,12 +37,12 @@ day_falls = (col 1 3, falling) ∷ []
 abbrev pub nearest_query : Query
 nearest_query = first_of (from_one daydetail_tree upto_tests (columns_at (3 ∷ [])) day_falls)
 
-pub select_nearest_is : command_of (understood schema_4 select_nearest)
+pub select_nearest_is : command_of (understood current_schema select_nearest)
     ≡ Select (record { lets = []; body = nearest_query }) (codes "day" ∷ [])
 unfolding understood everything
 select_nearest_is = refl
 
-pub select_nearest_plain : IsPlain (understood schema_4 select_nearest) × (reads_listing schema_4 select_nearest ≡ false)
+pub select_nearest_plain : IsPlain (understood current_schema select_nearest) × (reads_listing current_schema select_nearest ≡ false)
 unfolding understood everything
 select_nearest_plain = ((refl, refl), refl)
 
@@ -59,13 +59,13 @@ details_fall =
 abbrev pub details_query : Query
 details_query = from_one daydetail_tree (equals 1 0 ∷ equals 2 1 ∷ equals 3 2 ∷ []) (columns_at details_columns) details_fall
 
-pub select_details_is : command_of (understood schema_4 select_details)
+pub select_details_is : command_of (understood current_schema select_details)
     ≡ Select (record { lets = []; body = details_query }) (codes "moment" ∷ codes "configuration" ∷ codes "register"
     ∷ codes "datastream" ∷ codes "meter" ∷ codes "next" ∷ [])
 unfolding understood everything
 select_details_is = refl
 
-pub select_details_plain : IsPlain (understood schema_4 select_details) × (reads_listing schema_4 select_details ≡ false)
+pub select_details_plain : IsPlain (understood current_schema select_details) × (reads_listing current_schema select_details ≡ false)
 unfolding understood everything
 select_details_plain = ((refl, refl), refl)
 
@@ -85,13 +85,13 @@ day_rises = (col 1 3, rising) ∷ details_fall
 abbrev pub range_query : Query
 range_query = from_one daydetail_tree range_tests (columns_at range_columns) day_rises
 
-pub select_range_is : command_of (understood schema_4 select_range)
+pub select_range_is : command_of (understood current_schema select_range)
     ≡ Select (record { lets = []; body = range_query }) (codes "moment" ∷ codes "configuration" ∷ codes "register"
     ∷ codes "datastream" ∷ codes "meter" ∷ codes "next" ∷ codes "day" ∷ [])
 unfolding understood everything
 select_range_is = refl
 
-pub select_range_plain : IsPlain (understood schema_4 select_range) × (reads_listing schema_4 select_range ≡ false)
+pub select_range_plain : IsPlain (understood current_schema select_range) × (reads_listing current_schema select_range ≡ false)
 unfolding understood everything
 select_range_plain = ((refl, refl), refl)
 
@@ -109,11 +109,11 @@ with_tests =
 abbrev pub days_with_query : Query
 days_with_query = from_one daydetail_tree with_tests (columns_at (3 ∷ [])) []
 
-pub select_days_with_is : command_of (understood schema_4 select_days_with)
+pub select_days_with_is : command_of (understood current_schema select_days_with)
     ≡ Select (record { lets = []; body = days_with_query }) (codes "day" ∷ [])
 unfolding understood everything
 select_days_with_is = refl
 
-pub select_days_with_plain : IsPlain (understood schema_4 select_days_with) × (reads_listing schema_4 select_days_with ≡ false)
+pub select_days_with_plain : IsPlain (understood current_schema select_days_with) × (reads_listing current_schema select_days_with ≡ false)
 unfolding understood everything
 select_days_with_plain = ((refl, refl), refl)

@@ -37,8 +37,7 @@ use Rattle.mds_selects.proofs.SelectLemmas.{Picks, passes, picks_first, shows}
 use Rattle.mds_selects.proofs.SelectTexts.{columns_at}
 use Rattle.mds_selects.proofs.TypedLemmas.{both}
 use Rattle.mds_selects.proofs.TypedRows.{HasKeyCells, begins_at, begins_by}
-use Rattle.mds_pack_rows.specs.FormLayout.{forms_layout}
-use Rattle.mds_pack_rows.specs.FormTables.{schema_4}
+use Rattle.mds_pack_rows.specs.Current.{current_layout, current_schema}
 use Rattle.mds_day_details.specs.Shown.{HasRow, ShowsNearest}
 use Rattle.mds_day_details.proofs.DetailCells.{row_cells}
 use Rattle.mds_day_details.proofs.DetailTexts.{day_falls, nearest_query, select_nearest, select_nearest_is, select_nearest_plain, upto_tests}
@@ -94,7 +93,7 @@ by_column x o a b p q least =
     ap is_lt (sym (then-Equal (by_key falling (column a 0) (column b 0))))
     ∙ (λ i. is_lt (ordering_then (by_key falling (column (sym p i) 0) (column (sym q i) 0)) Equal)) ∙ least
 
-module _ (s : Stream) (day : ℕ) (db : Trees) (sound : IsSound schema_4 db) where
+module _ (s : Stream) (day : ℕ) (db : Trees) (sound : IsSound current_schema db) where
   abbrev PicksDays : List Row → Type 0
   PicksDays = Picks daydetail_tree upto_tests (columns_at (3 ∷ [])) day_falls db (day_cells s day)
 
@@ -158,7 +157,7 @@ module _ (s : Stream) (day : ℕ) (db : Trees) (sound : IsSound schema_4 db) whe
 
 pub finds_nearest : {V : Type 0} (s : Stream) (day : ℕ) (old new : State) (items : V → List Row) (r : Result V Error)
     → IfOk r (λ v. Shown select_nearest (day_cells s day) old new (items v))
-    → IfOk r (λ v. FindsOf forms_layout old new (λ trees. ShowsNearest s day trees (items v)))
+    → IfOk r (λ v. FindsOf current_layout old new (λ trees. ShowsNearest s day trees (items v)))
 finds_nearest s day old new items =
-    finds_by forms_layout select_nearest select_nearest_plain nearest_query _ select_nearest_is old new (day_cells s day) items
+    finds_by current_layout select_nearest select_nearest_plain nearest_query _ select_nearest_is old new (day_cells s day) items
     (λ rows trees. ShowsNearest s day trees rows) (λ db sound rows answer. says_nearest s day db sound rows answer)

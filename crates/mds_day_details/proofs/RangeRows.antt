@@ -38,8 +38,7 @@ use Rattle.mds_selects.proofs.SelectLemmas.{Picks, passes, shows}
 use Rattle.mds_selects.proofs.SelectTexts.{columns_at}
 use Rattle.mds_selects.proofs.TypedLemmas.{both}
 use Rattle.mds_selects.proofs.TypedRows.{HasKeyCells, begins_at, begins_by}
-use Rattle.mds_pack_rows.specs.FormLayout.{forms_layout}
-use Rattle.mds_pack_rows.specs.FormTables.{schema_4}
+use Rattle.mds_pack_rows.specs.Current.{current_layout, current_schema}
 use Rattle.mds_day_details.specs.Shown.{AreByDay, IsDetailRow, IsInRange, ShowsRange, range_columns}
 use Rattle.mds_day_details.proofs.DetailCells.{row_cells}
 use Rattle.mds_day_details.proofs.DetailOrder.{all_at, moment_order, next_order, shown_cmp, shown_total, turned, two}
@@ -136,7 +135,7 @@ by_day os keyed up of i j d low high =
 
 -- ---- the query
 
-module _ (s : Stream) (first last : ℕ) (db : Trees) (sound : IsSound schema_4 db) where
+module _ (s : Stream) (first last : ℕ) (db : Trees) (sound : IsSound current_schema db) where
   abbrev show : Row → Output
   show = shows daydetail_tree range_tests (columns_at range_columns) day_rises db (range_cells s first last)
 
@@ -173,8 +172,8 @@ module _ (s : Stream) (first last : ℕ) (db : Trees) (sound : IsSound schema_4 
 
 pub finds_range : {V : Type 0} (s : Stream) (first last : ℕ) (old new : State) (items : V → List Row) (r : Result V Error)
     → IfOk r (λ v. Shown select_range (range_cells s first last) old new (items v))
-    → IfOk r (λ v. FindsOf forms_layout old new (λ trees. ShowsRange s first last trees (items v)))
+    → IfOk r (λ v. FindsOf current_layout old new (λ trees. ShowsRange s first last trees (items v)))
 finds_range s first last old new items r h =
-    finds forms_layout select_range select_range_plain daydetail_tree range_tests (columns_at range_columns) day_rises _ select_range_is
+    finds current_layout select_range select_range_plain daydetail_tree range_tests (columns_at range_columns) day_rises _ select_range_is
     (λ db. refl) old new (range_cells s first last) items
     (λ rows trees. ShowsRange s first last trees rows) (λ db sound rows p. says_range s first last db sound rows p) r h

@@ -14,7 +14,7 @@ ghost use Rattle.mds_tables.specs.Queries.{Answers};
 ghost use Rattle.mds_tables.specs.Stores.{HoldsOf};
 ghost use Rattle.mds_selects.specs.Shown.{SaysDay};
 ghost use Rattle.mds_selects.specs.Written.{IsDay};
-ghost use Rattle.mds_pack_rows.specs.FormLayout.{forms_layout, world_4};
+ghost use Rattle.mds_pack_rows.specs.Current.{current_layout, current_world};
 ghost use Rattle.mds_day_details.specs.Shown.{AreByDay, AreLeft, EndsOn, IsDetailRow, IsRowOf, IsWritten, TellsDays, TellsFirst, TellsRow, text_length};
 
 use crate::rows::{days_with_rows, details_rows, nearest_rows, range_rows};
@@ -39,8 +39,8 @@ pub fn current_details<S: Alter>(
     day: Day,
 ) -> Result<Details, Unavailable>
     requires { conn.old.in_transaction ≡ false }
-    ensures { Answers (HoldsOf forms_layout) (state S.Store conn.old) (state S.Store conn.new) result
-        (λ trees. IsCurrentDetails (world_4 trees) stream.now day) }
+    ensures { Answers (HoldsOf current_layout) (state S.Store conn.old) (state S.Store conn.new) result
+        (λ trees. IsCurrentDetails (current_world trees) stream.now day) }
 {
     or_unavailable(ready(conn))?;
     // For the proof: a day's number is at most that of the last day.
@@ -124,8 +124,8 @@ pub fn details_between<S: Alter>(
     last: Day,
 ) -> Result<Vec<(Day, Details)>, Unavailable>
     requires { conn.old.in_transaction ≡ false }
-    ensures { Answers (HoldsOf forms_layout) (state S.Store conn.old) (state S.Store conn.new) result
-        (λ trees rows. AreDetailsBetween (world_4 trees) stream.now first last rows.items) }
+    ensures { Answers (HoldsOf current_layout) (state S.Store conn.old) (state S.Store conn.new) result
+        (λ trees rows. AreDetailsBetween (current_world trees) stream.now first last rows.items) }
 {
     or_unavailable(ready(conn))?;
     // For the proof: a day's number is at most that of the last day.
@@ -178,8 +178,8 @@ pub fn days_without<S: Alter>(
     details: &DetailDays,
 ) -> Result<Vec<Day>, Unavailable>
     requires { conn.old.in_transaction ≡ false }
-    ensures { Answers (HoldsOf forms_layout) (state S.Store conn.old) (state S.Store conn.new) result
-        (λ trees days. AreDaysWithout (world_4 trees) details.now days.items) }
+    ensures { Answers (HoldsOf current_layout) (state S.Store conn.old) (state S.Store conn.new) result
+        (λ trees days. AreDaysWithout (current_world trees) details.now days.items) }
 {
     or_unavailable(ready(conn))?;
     let mut left = set_of(alloc, &details.days)?;

@@ -6,7 +6,7 @@ ghost use Rattle.sqlite.specs.Values.{bound};
 ghost use Rattle.sqlite.specs.declared.types.Value.TheVariants.{Int};
 ghost use Rattle.mds_tables.specs.Cells as row;
 ghost use Rattle.mds_tables.specs.Queries.{QueriesOf};
-ghost use Rattle.mds_pack_rows.specs.FormLayout.{forms_layout};
+ghost use Rattle.mds_pack_rows.specs.Current.{current_layout};
 ghost use Rattle.mds_day_details.specs.Shown.{ShowsDaysWith, ShowsDetails, ShowsNearest, ShowsRange, days_cells};
 
 use mds_keeper::DetailDays;
@@ -21,7 +21,7 @@ pub(crate) fn nearest_rows<S: Alter>(
     stream: &Stream,
     day: Day,
 ) -> Result<Vec<Row>, Error>
-    ensures { QueriesOf forms_layout (state S.Store conn.old) (state S.Store conn.new) result (ShowsNearest stream.now day) }
+    ensures { QueriesOf current_layout (state S.Store conn.old) (state S.Store conn.new) result (ShowsNearest stream.now day) }
 {
     conn.query_all(
         "SELECT day FROM mds_daydetail WHERE nmi = ?1 AND suffix = ?2 AND day <= ?3 ORDER BY day DESC LIMIT 1",
@@ -35,7 +35,7 @@ pub(crate) fn details_rows<S: Alter>(
     stream: &Stream,
     day: Day,
 ) -> Result<Vec<Row>, Error>
-    ensures { QueriesOf forms_layout (state S.Store conn.old) (state S.Store conn.new) result (ShowsDetails stream.now day) }
+    ensures { QueriesOf current_layout (state S.Store conn.old) (state S.Store conn.new) result (ShowsDetails stream.now day) }
 {
     // decides: which details of a day are current? (definition: IsCurrentDetails in mds_world/specs/Current.antt)
     conn.query_all(
@@ -52,7 +52,7 @@ pub(crate) fn range_rows<S: Alter>(
     first: Day,
     last: Day,
 ) -> Result<Vec<Row>, Error>
-    ensures { QueriesOf forms_layout (state S.Store conn.old) (state S.Store conn.new) result (ShowsRange stream.now first last) }
+    ensures { QueriesOf current_layout (state S.Store conn.old) (state S.Store conn.new) result (ShowsRange stream.now first last) }
 {
     conn.query_all(
         "SELECT moment, configuration, register, datastream, meter, next, day FROM mds_daydetail WHERE nmi = ?1 AND suffix = ?2 AND day >= ?3 AND day <= ?4 ORDER BY day, moment DESC, configuration DESC, register DESC, datastream DESC, meter DESC, next DESC",
@@ -67,7 +67,7 @@ pub(crate) fn days_with_rows<S: Alter>(
     first: Day,
     last: Day,
 ) -> Result<Vec<Row>, Error>
-    ensures { QueriesOf forms_layout (state S.Store conn.old) (state S.Store conn.new) result (ShowsDaysWith details.now first last) }
+    ensures { QueriesOf current_layout (state S.Store conn.old) (state S.Store conn.new) result (ShowsDaysWith details.now first last) }
 {
     conn.query_all(
         "SELECT day FROM mds_daydetail WHERE nmi = ?1 AND suffix = ?2 AND day >= ?3 AND day <= ?4 AND moment = ?5 AND configuration = ?6 AND register = ?7 AND datastream = ?8 AND meter = ?9 AND next = ?10",

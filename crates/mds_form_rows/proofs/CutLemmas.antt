@@ -23,8 +23,8 @@ use Rattle.mds_tables.specs.Tables.{form_tree, head_tree}
 use Rattle.mds_selects.proofs.Adding.{member_at}
 use Rattle.mds_selects.proofs.Listed.{day_on, first_shown, on_day}
 use Rattle.mds_selects.proofs.TypedRows.{head_row}
-use Rattle.mds_pack_rows.specs.FormLayout.{unit_in, world_4}
-use Rattle.mds_pack_rows.specs.FormTables.{formed, schema_4}
+use Rattle.mds_pack_rows.specs.Current.{current_more, current_schema, current_world}
+use Rattle.mds_pack_rows.specs.FormLayout.{unit_in}
 use Rattle.mds_pack_rows.specs.PackTables.{pack_tree}
 use Rattle.mds_form_rows.specs.Cuts.{AddsDay, AreCut, DayCut, DaysAscend, IsCut, day_columns, day_unit, range_columns}
 use Rattle.mds_form_rows.specs.FormRows.{IsBookOf}
@@ -167,7 +167,7 @@ all_cut s days i forms packs used_forms used_packs left_forms left_packs books e
 
 -- ---- what the books are
 
-module _ (s : Stream) (first last : ℕ) (small : last < 2 ^ 63) (trees : Trees) (sound : IsSound schema_4 trees) (heads forms packs : List Row)
+module _ (s : Stream) (first last : ℕ) (small : last < 2 ^ 63) (trees : Trees) (sound : IsSound current_schema trees) (heads forms packs : List Row)
     (of_heads : SelectsRange head_tree s first last day_columns trees heads)
     (of_forms : SelectsRange form_tree s first last range_columns trees forms)
     (of_packs : SelectsRange pack_tree s first last range_columns trees packs) (books : List BookValue)
@@ -239,7 +239,7 @@ module _ (s : Stream) (first last : ℕ) (small : last < 2 ^ 63) (trees : Trees)
       unit_found (trees head_tree) row cut.unit has.row has.there
       (λ i. record { stream = (of_stream ∙ sym stream) i; day = (of_on ∙ sym on) i })
       (λ other n same.
-      let begins = day_on s day other (low day has.to) (head_row formed trees sound other n) (ap (λ (d : StreamDay). d.stream) same ∙ stream)
+      let begins = day_on s day other (low day has.to) (head_row current_more trees sound other n) (ap (λ (d : StreamDay). d.stream) same ∙ stream)
       (ap (λ (d : StreamDay). d.day) same ∙ on) in
       let shown = map (column other) day_columns in
       let listed = (of_heads shown).1 (other, n, (day, has.from, has.to, begins), refl) in
@@ -253,7 +253,7 @@ module _ (s : Stream) (first last : ℕ) (small : last < 2 ^ 63) (trees : Trees)
   packs_of : (cut : DayCut) → Member cut cuts → Selects pack_tree (day_cells s cut.book.day) range_columns trees cut.packs
   packs_of = its_rows pack_tree packs of_packs its_packs are.of_packs (λ cut m. (are.each cut m).of_packs)
 
-  is_day : (cut : DayCut) → Member cut cuts → (cut.book.stream ≡ s) × IsDay (world_4 trees) cut.book
+  is_day : (cut : DayCut) → Member cut cuts → (cut.book.stream ≡ s) × IsDay (current_world trees) cut.book
   is_day cut m =
       let it = are.each cut m in
       let has = has_row cut m in (
@@ -263,7 +263,7 @@ module _ (s : Stream) (first last : ℕ) (small : last < 2 ^ 63) (trees : Trees)
       )
 
   -- its day is known
-  is_known : (cut : DayCut) → Member cut cuts → (first ≤ cut.book.day) × (cut.book.day ≤ last) × IsKnownDay (world_4 trees) s cut.book.day
+  is_known : (cut : DayCut) → Member cut cuts → (first ≤ cut.book.day) × (cut.book.day ≤ last) × IsKnownDay (current_world trees) s cut.book.day
   is_known cut m =
       let has = has_row cut m in
       let shown = first_shown cut.forms (are.each cut m).some in
@@ -277,7 +277,7 @@ module _ (s : Stream) (first last : ℕ) (small : last < 2 ^ 63) (trees : Trees)
   cut_of book m = in_map its_book cuts book (subst (Member book) are.of_books m)
 
   -- a known day has a book
-  has_book : (day : ℕ) → first ≤ day → day ≤ last → IsKnownDay (world_4 trees) s day → Member day (map (λ book. book.day) books)
+  has_book : (day : ℕ) → first ≤ day → day ≤ last → IsKnownDay (current_world trees) s day → Member day (map (λ book. book.day) books)
   has_book day from to known =
       let n = form_named trees known.0 known.1 in
       let r = n.0 in
@@ -292,18 +292,18 @@ module _ (s : Stream) (first last : ℕ) (small : last < 2 ^ 63) (trees : Trees)
       let listed = subst (Member here.0.book) (sym are.of_books) (map_in its_book cuts here.0 here.1) in
       subst (λ d. Member d (map (λ book. book.day) books)) is (map_in (λ (book : BookValue). book.day) books here.0.book listed)
 
-  pub are_days : AreDaysOf (world_4 trees) s first last books
+  pub are_days : AreDaysOf (current_world trees) s first last books
   are_days = record {
     each = λ i d less.
         let book = slice_index_or books i d in
         let c = cut_of book (member_at books i d less) in
-        subst (λ b. (b.stream ≡ s) × IsDay (world_4 trees) b) (sym c.2) (is_day c.0 c.1);
+        subst (λ b. (b.stream ≡ s) × IsDay (current_world trees) b) (sym c.2) (is_day c.0 c.1);
     known = λ day. (
       (λ m.
           let b = in_map (λ (book : BookValue). book.day) books day m in
           let c = cut_of b.0 b.1 in
           let same : c.0.book.day ≡ day = sym (b.2 ∙ ap (λ (book : BookValue). book.day) c.2) in
-          subst (λ d. (first ≤ d) × (d ≤ last) × IsKnownDay (world_4 trees) s d) same (is_known c.0 c.1)),
+          subst (λ d. (first ≤ d) × (d ≤ last) × IsKnownDay (current_world trees) s d) same (is_known c.0 c.1)),
       (λ p. has_book day p.0 p.1 p.2),
     );
     ascending = subst (Ascend (λ (book : BookValue). book.day)) (sym are.of_books) (ascend_map its_book (λ (book : BookValue). book.day) cuts are.ascending);

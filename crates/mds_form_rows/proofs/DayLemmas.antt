@@ -25,9 +25,9 @@ use Rattle.mds_tables.specs.Tables.{form_tree, head_tree}
 use Rattle.mds_tables.proofs.Named.{of_version}
 use Rattle.mds_selects.proofs.Listed.{day_on, on_day}
 use Rattle.mds_selects.proofs.TypedRows.{head_row}
+use Rattle.mds_pack_rows.specs.Current.{current_layout, current_more, current_schema, current_world}
 use Rattle.mds_pack_rows.specs.DayRows.{shown_facts}
-use Rattle.mds_pack_rows.specs.FormLayout.{forms_layout, forms_packs, unit_in, world_4}
-use Rattle.mds_pack_rows.specs.FormTables.{formed, schema_4}
+use Rattle.mds_pack_rows.specs.FormLayout.{forms_packs, unit_in}
 use Rattle.mds_pack_rows.specs.PackFacts.{body_facts, facts_from, minutes_of, pack_facts, pack_versions, readings_in}
 use Rattle.mds_pack_rows.specs.PackTables.{pack_tree}
 use Rattle.mds_pack_rows.proofs.AskLemmas.{pack_row}
@@ -57,7 +57,7 @@ same_day w book other stream day says is = record {
   only = λ f h. is.only f (subst (λ v. f ∈ v) says h);
 }
 
-module _ (s : Stream) (day : ℕ) (low : day < 2 ^ 63) (trees : Trees) (sound : IsSound schema_4 trees) where
+module _ (s : Stream) (day : ℕ) (low : day < 2 ^ 63) (trees : Trees) (sound : IsSound current_schema trees) where
   -- The unit that the only row of mds_head of a day says is that of its heads.
   pub only_unit : (units : List Row) → Selects head_tree (day_cells s day) unit_columns trees units → (shown : Row) → units ≡ shown ∷ []
       → (row : Row) → stream_in row ≡ s → natural_at row 3 ≡ day → unit_in (trees head_tree) row ≡ unit_named (text_at shown 0)
@@ -67,7 +67,7 @@ module _ (s : Stream) (day : ℕ) (low : day < 2 ^ 63) (trees : Trees) (sound : 
       unit_found (trees head_tree) row (unit_named (text_at shown 0)) it.0 it.1
       (λ i. record { stream = (at.0 ∙ sym stream) i; day = (at.1 ∙ sym on) i })
       (λ other m same.
-      let begins = day_on s day other low (head_row formed trees sound other m) (ap (λ (d : StreamDay). d.stream) same ∙ stream)
+      let begins = day_on s day other low (head_row current_more trees sound other m) (ap (λ (d : StreamDay). d.stream) same ∙ stream)
       (ap (λ (d : StreamDay). d.day) same ∙ on) in
       let here : Member (column other 5 ∷ []) (shown ∷ []) =
       subst (Member (column other 5 ∷ [])) alone ((sel (column other 5 ∷ [])).1 (other, m, begins, refl)) in
@@ -80,7 +80,7 @@ module _ (s : Stream) (day : ℕ) (low : day < 2 ^ 63) (trees : Trees) (sound : 
     -- ---- heads
 
     abbrev IsHeadHere : Head → Type 0
-    IsHeadHere head = (HeadIs head ∈ world_4 trees) × (head.stream ≡ s) × (head.day ≡ day)
+    IsHeadHere head = (HeadIs head ∈ current_world trees) × (head.stream ≡ s) × (head.day ≡ day)
 
     -- what a row of the day says is what is shown of it
     same_head : (r : Row) → Member r (trees form_tree) → stream_in r ≡ s → natural_at r 3 ≡ day
@@ -113,7 +113,7 @@ module _ (s : Stream) (day : ℕ) (low : day < 2 ^ 63) (trees : Trees) (sound : 
     -- ---- versions
 
     abbrev IsVersionHere : Key → ReadingValue → Type 0
-    IsVersionHere key reading = (VersionIs key reading ∈ world_4 trees) × (key.stream ≡ s) × (key.day ≡ day)
+    IsVersionHere key reading = (VersionIs key reading ∈ current_world trees) × (key.stream ≡ s) × (key.day ≡ day)
 
     abbrev held : Row → List (Option ReadingValue)
     held r = unwrap_or (readings_in (text_at r 5)) []
@@ -122,9 +122,9 @@ module _ (s : Stream) (day : ℕ) (low : day < 2 ^ 63) (trees : Trees) (sound : 
     same_day_facts r stream on = λ i. body_facts (stream i) (on i) (natural_at r 4) (text_at r 5)
 
     -- a version is said by mds_pack
-    said : (key : Key) (reading : ReadingValue) → (VersionIs key reading ∈ world_4 trees) ↔ Member (VersionIs key reading) (pack_versions trees)
+    said : (key : Key) (reading : ReadingValue) → (VersionIs key reading ∈ current_world trees) ↔ Member (VersionIs key reading) (pack_versions trees)
     said key reading =
-        let own = of_version forms_layout trees key reading in
+        let own = of_version current_layout trees key reading in
         let packed = forms_packs.versions trees key reading in
         (λ m. packed.0 (own.0 m), λ m. own.1 (packed.1 m))
 
@@ -141,7 +141,7 @@ module _ (s : Stream) (day : ℕ) (low : day < 2 ^ 63) (trees : Trees) (sound : 
         flat_in (shown_facts s day) packs f shown ((of_packs shown).1 (r, here.1, begins, refl)) (subst (Member f) (same_day_facts r stream on) here.2)
 
     shown_version : (key : Key) (reading : ReadingValue) → Member (VersionIs key reading) (flat_map (shown_facts s day) packs)
-        → VersionIs key reading ∈ world_4 trees
+        → VersionIs key reading ∈ current_world trees
     shown_version key reading m =
         let f : Fact = VersionIs key reading in
         let here = in_flat (shown_facts s day) packs f m in
@@ -163,7 +163,7 @@ module _ (s : Stream) (day : ℕ) (low : day < 2 ^ 63) (trees : Trees) (sound : 
       abbrev versions : List Fact
       versions = map (row_fact s day) is.versions
 
-      whole : (f : Fact) → IsOn s day f → f ∈ world_4 trees → f ∈ book_world made
+      whole : (f : Fact) → IsOn s day f → f ∈ current_world trees → f ∈ book_world made
       whole (HeadIs head) on h =
           list_in (book_facts made) (HeadIs head)
           (append_left (HeadIs head) heads versions ((is.under.heads s day unit (HeadIs head)).1 (head_shown head (h, on.0, on.1))))
@@ -177,26 +177,26 @@ module _ (s : Stream) (day : ℕ) (low : day < 2 ^ 63) (trees : Trees) (sound : 
       whole (HolidayIs date) on h = absurd on
       whole (JobIs id content count) on h = absurd on
 
-      only : (f : Fact) → f ∈ book_world made → f ∈ world_4 trees
+      only : (f : Fact) → f ∈ book_world made → f ∈ current_world trees
       only f h = elim (member_append f heads versions (in_list (book_facts made) f h)) [
         | inl a ↦
             let it = shown_is f ((is.under.heads s day unit f).0 a) in
-            subst (λ g. g ∈ world_4 trees) (sym it.1) it.2.0
+            subst (λ g. g ∈ current_world trees) (sym it.1) it.2.0
         | inr b ↦
             let v = in_map (row_fact s day) is.versions f b in
-            subst (λ g. g ∈ world_4 trees) (sym v.2)
+            subst (λ g. g ∈ current_world trees) (sym v.2)
             (shown_version (key_at s day v.0.1.length v.0.0 v.0.1.update) v.0.1.reading
             (subst (Member (row_fact s day v.0)) (is.under.held s day) (map_in (row_fact s day) is.versions v.0 v.1)))
       ]
 
       -- The book that is made of the rows of a day is that day of the World.
-      pub is_day : IsDay (world_4 trees) book
-      is_day = same_day (world_4 trees) book made is.stream is.on is.says (record { whole = whole; only = only })
+      pub is_day : IsDay (current_world trees) book
+      is_day = same_day (current_world trees) book made is.stream is.on is.says (record { whole = whole; only = only })
 
   -- a day without a row of mds_form isn't known
   pub no_day : (forms packs : List Row) → Selects form_tree (day_cells s day) (4 ∷ 5 ∷ []) trees forms
       → Selects pack_tree (day_cells s day) (4 ∷ 5 ∷ []) trees packs → forms ≡ [] → (book : BookValue)
-      → ((unit : MeasureUnit) → IsBookOf s day unit [] packs book) → IsDay (world_4 trees) book
+      → ((unit : MeasureUnit) → IsBookOf s day unit [] packs book) → IsDay (current_world trees) book
   no_day forms packs of_forms of_packs none book is =
       let unit = unit_named [] in
       is_day unit forms packs [] of_forms of_packs

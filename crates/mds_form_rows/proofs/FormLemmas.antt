@@ -21,8 +21,8 @@ use Rattle.mds_inserts.specs.Parts.{Part, Says}
 use Rattle.mds_inserts.specs.Writing.{IsMore}
 use Rattle.mds_inserts.proofs.RowLemmas.{Unnamed, more}
 use Rattle.mds_selects.proofs.MemberLemmas.{moved}
+use Rattle.mds_pack_rows.specs.Current.{current_schema}
 use Rattle.mds_pack_rows.specs.FormLayout.{day_in, form_fact, form_heads, unit_in}
-use Rattle.mds_pack_rows.specs.FormTables.{schema_4}
 use Rattle.mds_form_rows.specs.Committing.{KeepsUnits}
 use Rattle.mds_form_rows.specs.FormPutting.{SayUnits, day_of}
 use Rattle.mds_form_rows.proofs.ReferenceLemmas.{has_day}
@@ -50,7 +50,7 @@ form_bare heads (v ∷ row) =
 -- ---- rows that are put
 
 -- Where mds_head keeps the units of other days, and says those of the heads that are put:
-module _ (one last : Trees) (new_days further : List Head) (sound : IsSound schema_4 one) (sound_then : IsSound schema_4 last)
+module _ (one last : Trees) (new_days further : List Head) (sound : IsSound current_schema one) (sound_then : IsSound current_schema last)
     (keeps : KeepsUnits new_days (one head_tree) (last head_tree)) (say : SayUnits (new_days ++ further) last)
     (gains : Gains form_tree (map form_cells (new_days ++ further)) one last) where
   abbrev all : List Head

@@ -33,12 +33,12 @@ use Rattle.mds_tables.proofs.InsertLemmas.{cast_int, cast_null, same_value, simp
 use Rattle.mds_tables.specs.Cells.{unit_cells}
 use Rattle.mds_tables.specs.RowFacts.{text_at, unit_named}
 use Rattle.mds_tables.specs.Tables.{head_table, head_tree}
-use Rattle.mds_inserts.specs.Parts.{by_eights, head_part, statements_of}
+use Rattle.mds_inserts.specs.Parts.{head_part, in_turn, statements_of}
 use Rattle.mds_inserts.specs.Refusals.{TakesAll, all_cells, insert_of, terms_from, width_of}
 use Rattle.mds_inserts.proofs.Eights.{chunks_are, eight_got, flat}
 use Rattle.mds_inserts.proofs.ManyLemmas.{sources}
+use Rattle.mds_pack_rows.specs.Current.{current_schema}
 use Rattle.mds_pack_rows.specs.FormLayout.{day_in, unit_in}
-use Rattle.mds_pack_rows.specs.FormTables.{schema_4}
 use Rattle.mds_form_rows.specs.Committing.{KeepsUnits}
 use Rattle.mds_form_rows.specs.FormPutting.{day_of}
 use Rattle.mds_form_rows.proofs.UnitLemmas.{one_day}
@@ -182,7 +182,7 @@ given_both : (xss yss : List (List Head)) → AllByRecursion AreGiven xss → Al
 given_both [] yss p q = q
 given_both (xs ∷ xss) yss p q = (p.0, given_both xss yss p.1 q)
 
-all_keep : (limit : Option ℕ) (hss : List (List Head)) → AllByRecursion AreGiven hss → (old new : Database) → old.schema ≡ schema_4
+all_keep : (limit : Option ℕ) (hss : List (List Head)) → AllByRecursion AreGiven hss → (old new : Database) → old.schema ≡ current_schema
     → TakesAll limit (statements_of head_part hss) old new → KeepsUnits (flat hss) (old.trees head_tree) (new.trees head_tree)
 all_keep limit [] all old new has takes =
     subst (λ (d : Database). KeepsUnits [] (old.trees head_tree) (d.trees head_tree)) (sym takes) (keeps_none (old.trees head_tree))
@@ -191,7 +191,7 @@ all_keep limit (heads ∷ hss) all old new has takes =
     let does =
     subst (λ (s : Schema). Does limit (record { keys = Enforced; in_doubt = false; may_wait = false }) (all_cells rows)
     (record { schema = s; trees = old.trees }) [] None (insert_of 1 rows) (Ok (takes.0, takes.1))) has takes.2 in
-    let one = keeps limit schema_4 (all_cells rows) old.trees heads (terms_from 0 rows) (width_of rows) all.0 takes.0 takes.1 refl does in
+    let one = keeps limit current_schema (all_cells rows) old.trees heads (terms_from 0 rows) (width_of rows) all.0 takes.0 takes.1 refl does in
     keeps_then heads (flat hss) (old.trees head_tree) (takes.1.trees head_tree) (new.trees head_tree) one.1
     (all_keep limit hss all.1 takes.1 new one.0 takes.3)
 
@@ -199,9 +199,9 @@ flat_ones : (heads : List Head) → flat (map (λ head. head ∷ []) heads) ≡ 
 flat_ones [] = refl
 flat_ones (h ∷ hs) = ap (λ more. h ∷ more) (flat_ones hs)
 
--- What puts days by eights keeps the units of the others.
-pub heads_keep : (limit : Option ℕ) (heads : List Head) (old new : Database) → old.schema ≡ schema_4
-    → TakesAll limit (by_eights head_part heads) old new → KeepsUnits heads (old.trees head_tree) (new.trees head_tree)
+-- What puts days in turn keeps the units of the others.
+pub heads_keep : (limit : Option ℕ) (heads : List Head) (old new : Database) → old.schema ≡ current_schema
+    → TakesAll limit (in_turn head_part heads) old new → KeepsUnits heads (old.trees head_tree) (new.trees head_tree)
 heads_keep limit heads old new has takes =
     let k = length heads / 8 in
     let chunks = first_chunks 8 k heads in
@@ -209,7 +209,7 @@ heads_keep limit heads old new has takes =
     let ones : List (List Head) = map (λ head. head ∷ []) rest in
     let whole : flat (chunks ++ ones) ≡ heads =
     flat_map-append (λ xs. xs) chunks ones ∙ ap (λ l. flat chunks ++ l) (flat_ones rest) ∙ chunks_are heads k chunks rest refl refl in
-    let both : by_eights head_part heads ≡ statements_of head_part (chunks ++ ones) =
+    let both : in_turn head_part heads ≡ statements_of head_part (chunks ++ ones) =
     sym (map-append {B = ℕ × List Row} (λ (items : List Head). (head_part.place, map head_part.cells items)) chunks ones) in
     subst (λ hs. KeepsUnits hs (old.trees head_tree) (new.trees head_tree)) whole
     (all_keep limit (chunks ++ ones) (given_both chunks ones (eights_given k heads (omega arith)) (ones_given rest)) old new has

@@ -7,9 +7,7 @@ pub mod FormNamed
 pub mod FormTexts
 pub mod InOrder
 pub mod KeepLemmas
-pub mod MakingText
 pub mod OwnLemmas
-pub mod PutLemmas
 pub mod RangeLemmas
 pub mod ReferenceLemmas
 pub mod StreamLemmas

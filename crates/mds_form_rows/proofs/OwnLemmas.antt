@@ -1,96 +1,75 @@
 -- Heads, versions and details that are put in turn, as what the layout of schema 4 says by itself.
-use Rattle.std.proofs.Common.{◌≡◌, ◌≤◌, ◌++◌, List, map, Ok, Err, OnOk, Result, sym, subst, ◌∙◌, append_assoc, arith}
+use Rattle.std.proofs.Common.{◌≡◌, ◌++◌, List, map, Result, sym, subst, ◌∙◌, append_assoc, arith}
 use Rattle.sqlite.specs.Effect.{Database}
 use Rattle.sqlite.specs.Schema.{Schema}
-use Rattle.sqlite.specs.State.{HasCleanDisk, KeepsCommit, State}
-use Rattle.sqlite.proofs.InsideLemmas.{keeps_then}
+use Rattle.sqlite.specs.State.{HasCleanDisk, IsUnchanged, State}
 use Rattle.sqlite_catalog.specs.Listing.{IsSound}
-use Rattle.sqlite_trees.specs.View.{doubt}
 use Rattle.sqlite_trees.specs.Tree.{Trees}
 use Rattle.mds_world.specs.Facts.{Fact}
 use Rattle.mds_world.specs.Facts.Fact.{DetailIs, HeadIs}
 use Rattle.mds_world.specs.Lists.{Member}
-use Rattle.mds_world.specs.declared.facts.Head.{Head}
 use Rattle.mds_keeper.specs.Content.{details_of, heads_of, version_fact, versions_of}
 use Rattle.mds_keeper.specs.declared.additions.Additions.{Additions}
 use Rattle.mds_tables.specs.Cells.{detail_cells, form_cells, unit_cells}
-use Rattle.mds_tables.specs.Stores.{Gains}
-use Rattle.mds_tables.specs.Tables.{daydetail_tree, form_tree, head_tree, schema_with}
-use Rattle.mds_inserts.specs.Parts.{by_eights, detail_part, head_part}
-use Rattle.mds_inserts.specs.Writing.{IsMore, IsSteady, KeepsOthers, Puts, PutsEach, PutsOwn, PutsOwnThere, PutsThere}
+use Rattle.mds_tables.specs.Stores.{AreRowsOf, Gains}
+use Rattle.mds_tables.specs.Tables.{daydetail_tree, form_tree, head_tree}
+use Rattle.mds_inserts.specs.Frames.{Frames, IsAt}
+use Rattle.mds_inserts.specs.MadeRows.{IsRowOfJob, IsRowOfPeriod}
+use Rattle.mds_inserts.specs.Parts.{detail_part, head_part, in_turn}
+use Rattle.mds_inserts.specs.Refusals.{TakesAll}
+use Rattle.mds_inserts.specs.Writing.{HasAddedOf, IsMore, IsSteady, KeepsOthers, Puts, PutsOwn, PutsRestThere}
+use Rattle.mds_inserts.specs.declared.jobs.JobRow.{JobRow}
+use Rattle.mds_inserts.specs.declared.periods.PeriodRow.{PeriodRow}
+use Rattle.mds_inserts.proofs.PutLemmas.{all_put}
 use Rattle.mds_inserts.proofs.RowLemmas.{detail_bare, gains_kept, kept_gains, more, more_both, says_details}
+use Rattle.mds_pack_rows.specs.Current.{current_layout, current_more, current_schema, current_tables}
 use Rattle.mds_pack_rows.specs.DailyLayout.{daily_own, day_details}
-use Rattle.mds_pack_rows.specs.DailyPutting.{PutsDetails}
 use Rattle.mds_pack_rows.specs.DailyTables.{daydetails_then}
-use Rattle.mds_pack_rows.specs.FormLayout.{form_heads, forms_behind, forms_layout}
-use Rattle.mds_pack_rows.specs.FormTables.{formed, forms, schema_4, tables_4}
+use Rattle.mds_pack_rows.specs.FormLayout.{form_heads}
+use Rattle.mds_pack_rows.specs.FormTables.{forms}
 use Rattle.mds_pack_rows.specs.PackFacts.{pack_versions}
 use Rattle.mds_pack_rows.specs.PackTables.{pack_tree}
-use Rattle.mds_pack_rows.specs.Putting.{ChangesPacks, NamesMore, PutsFacts}
+use Rattle.mds_pack_rows.specs.Putting.{ChangesPacks, NamesMore}
+use Rattle.mds_pack_rows.proofs.FrameLemmas.{frames_finds}
 use Rattle.mds_pack_rows.proofs.NameLemmas.{named_on}
-use Rattle.mds_form_rows.specs.Committing.{KeepsUnits, PutsDays, PutsDaysThere}
-use Rattle.mds_form_rows.specs.FormPutting.{GainsForms, IsThereFormed, SayUnits, form_part}
+use Rattle.mds_form_rows.specs.Committing.{KeepsUnits, PutsDays}
+use Rattle.mds_form_rows.specs.FormPutting.{GainsForms, SayUnits, form_part}
 use Rattle.mds_form_rows.specs.Units.{AsksThere}
 use Rattle.mds_form_rows.proofs.FormLemmas.{forms_more}
 use Rattle.mds_form_rows.proofs.KeepLemmas.{heads_keep}
 
 -- ---- new days, and then their units
 
-module _ {E : Type 0} (a b c : State) (additions : Additions)
-    (first : PutsEach {X = Unit {0}} (schema_with formed) head_part (by_eights head_part additions.new_days.items) a b (Ok tt) additions.new_days.items)
-    (next : AsksThere {X = Unit {0}} {E = E} b c (Ok tt) (λ _. SayUnits (heads_of additions))) where
-  early : HasCleanDisk c → HasCleanDisk b
-  early clean = omega (arith, clean, next.survives.clean)
+-- questions to mds_head
+pub frames_asked : {X E : Type 0} (a b : State) (r : Result X E) (Tells : X → Trees → Type 0) → AsksThere a b r Tells
+    → Frames current_schema (λ x. IsUnchanged a b × Tells x a.now.trees) a b r
+frames_asked a b r Tells asks = frames_finds (daydetails_then forms) a b r Tells asks.ok asks.goes_on asks.kept asks.survives
 
-  days_put : HasCleanDisk c → IsThereFormed a c → PutsDays a c additions
-  days_put clean there =
-      let put = first.ok.puts (early clean) there.is_open there.schema there.sound in
-      let finds = next.ok clean (first.ok.is_open (early clean) there.is_open) in
-      let same = finds.same (daydetails_then forms) put.schema in
-      let now : b.now ≡ c.now = sym same.0.now_is in
-      let whole : IsSound b.now.schema b.now.trees = subst (λ (s : Schema). IsSound s b.now.trees) (sym put.schema) put.sound in
-      record {
-        put = record {
-          schema = subst (λ (db : Database). db.schema ≡ schema_4) now put.schema;
-          rows = subst (λ (db : Database). Gains head_tree (map unit_cells additions.new_days.items) a.now.trees db.trees) now put.rows;
-          others = subst (λ (db : Database). KeepsOthers head_tree a.now.trees db.trees tables_4) now put.others;
-          committed = same.0.committed_is ∙ put.committed;
-          sound = subst (λ (db : Database). IsSound schema_4 db.trees) now put.sound;
-        };
-        keeps = subst (λ (db : Database). KeepsUnits additions.new_days.items (a.now.trees head_tree) (db.trees head_tree)) now
-            (heads_keep a.step_limit additions.new_days.items a.now b.now there.schema
-            (first.took (early clean) there.schema (record { is_open = there.is_open; sound = there.sound })));
-        say = subst (λ (db : Database). SayUnits (heads_of additions) db.trees) now (finds.shows (daydetails_then forms) put.schema whole);
-      }
-
-  pub days_there : PutsDaysThere a c additions
-  days_there = record {
-    was_open = λ clean o. first.ok.was_open (early clean) (next.goes_on.was_open clean o);
-    is_open = λ clean o. next.goes_on.is_open clean (first.ok.is_open (early clean) o);
-    inside = λ clean o. next.goes_on.inside clean (first.ok.inside (early clean) o);
-    puts = λ clean o has sound. days_put clean (record { clean = clean; is_open = o; schema = has; sound = sound });
-  }
-
-pub if_days : {E : Type 0} (a b c : State) (additions : Additions) (r : Result (Unit {0}) E)
-    → PutsEach {X = Unit {0}} (schema_with formed) head_part (by_eights head_part additions.new_days.items) a b (Ok tt) additions.new_days.items
-    → AsksThere b c r (λ _. SayUnits (heads_of additions)) → OnOk r (PutsDaysThere a c additions)
-if_days a b c additions (Ok x) first next = days_there a b c additions first next
-if_days a b c additions (Err e) first next = tt
-
--- what keeps the commit there
-pub days_kept : {X E : Type 0} (a b c : State) (heads : List Head) {r : Result X E} {Tells : X → Trees → Type 0}
-    → PutsEach {X = Unit {0}} (schema_with formed) head_part (by_eights head_part heads) a b (Ok tt) heads → AsksThere b c r Tells
-    → IsThereFormed a c → KeepsCommit a c
-days_kept a b c heads first next there =
-    let early : HasCleanDisk b = omega (arith, there.clean, next.survives.clean) in
-    let put = first.ok.puts early there.is_open there.schema there.sound in
-    keeps_then a b c (first.kept early)
-    (next.kept there.clean (first.ok.is_open early there.is_open) (daydetails_then forms) put.schema)
+-- what they tell of the days that were put is still so
+pub days_put : (a b c : State) (additions : Additions) → IsAt current_schema a
+    → Puts current_schema head_part a b additions.new_days.items
+    × TakesAll a.step_limit (in_turn head_part additions.new_days.items) a.now b.now
+    → IsUnchanged b c × SayUnits (heads_of additions) b.now.trees → PutsDays a c additions
+days_put a b c additions at days asked =
+    let put = days.0 in
+    let now : b.now ≡ c.now = sym asked.0.0.now_is in
+    record {
+      put = record {
+        schema = subst (λ (db : Database). db.schema ≡ current_schema) now put.schema;
+        rows = subst (λ (db : Database). Gains head_tree (map unit_cells additions.new_days.items) a.now.trees db.trees) now put.rows;
+        others = subst (λ (db : Database). KeepsOthers head_tree a.now.trees db.trees current_tables) now put.others;
+        committed = asked.0.0.committed_is ∙ put.committed;
+        sound = subst (λ (db : Database). IsSound current_schema db.trees) now put.sound;
+      };
+      keeps = subst (λ (db : Database). KeepsUnits additions.new_days.items (a.now.trees head_tree) (db.trees head_tree)) now
+          (heads_keep a.step_limit additions.new_days.items a.now b.now at.schema days.1);
+      say = subst (λ (db : Database). SayUnits (heads_of additions) db.trees) now asked.1;
+    }
 
 -- ---- all of them
 
 -- what is told of them reads mds_head, mds_pack, mds_daydetail and mds_form alone
-pub steady_forms : IsSteady formed GainsForms
+pub steady_forms : IsSteady current_more GainsForms
 steady_forms a b c d additions heads _ first has heads_then _ last = (
   gains_kept head_tree (map unit_cells additions.new_days.items) a c d
       (kept_gains head_tree (map unit_cells additions.new_days.items) a b c heads has.0) heads_then,
@@ -107,9 +86,9 @@ module _ (a b c d e : State) (additions : Additions) where
   version_facts = map version_fact (versions_of additions.days.items)
 
   -- under the tables of schema 4
-  own_put : IsSound schema_4 a.now.trees → PutsDays a b additions
-      → ChangesPacks b c × NamesMore b.now.trees c.now.trees version_facts → Puts schema_4 form_part c d (heads_of additions)
-      → Puts schema_4 detail_part d e (details_of additions.details.items) → PutsOwn forms_layout GainsForms a e additions
+  pub own_put : IsSound current_schema a.now.trees → PutsDays a b additions
+      → ChangesPacks b c × NamesMore b.now.trees c.now.trees version_facts → Puts current_schema form_part c d (heads_of additions)
+      → Puts current_schema detail_part d e (details_of additions.details.items) → PutsOwn current_layout GainsForms a e additions
   own_put sound days packs forms details =
       let one = a.now.trees in
       let two = b.now.trees in
@@ -117,7 +96,7 @@ module _ (a b c d e : State) (additions : Additions) where
       let four = d.now.trees in
       let last = e.now.trees in
       let p = days.put.others in
-      let q : KeepsOthers pack_tree two three tables_4 =
+      let q : KeepsOthers pack_tree two three current_tables =
       subst (λ (s : Schema). KeepsOthers pack_tree two three s.tables) days.put.schema packs.0.others in
       let r = forms.others in
       let s = details.others in
@@ -184,23 +163,11 @@ module _ (a b c d e : State) (additions : Additions) where
         sound = details.sound;
       }
 
-  -- What these steps do is what a commit asks of heads, versions and details.
-  pub own_there : doubt b.is_clean ≤ doubt c.is_clean → doubt c.is_clean ≤ doubt d.is_clean → doubt d.is_clean ≤ doubt e.is_clean
-      → PutsDaysThere a b additions → PutsFacts b c version_facts → PutsThere schema_4 form_part c d (heads_of additions)
-      → PutsDetails d e (details_of additions.details.items) → PutsOwnThere forms_layout GainsForms a e additions
-  own_there bc cd de days packs heads dated =
-      let details = dated forms in
-      record {
-        was_open = λ clean o. days.was_open (omega arith) (packs.0.was_open (omega arith) (heads.was_open (omega arith) (details.was_open clean o)));
-        is_open = λ clean o. details.is_open clean (heads.is_open (omega arith) (packs.0.is_open (omega arith) (days.is_open (omega arith) o)));
-        inside = λ clean o. details.inside clean (heads.inside (omega arith) (packs.0.inside (omega arith) (days.inside (omega arith) o)));
-        puts = λ clean o under sound.
-            let one = days.puts (omega arith) o under sound in
-            let o2 = days.is_open (omega arith) o in
-            let two = packs.1 (record { clean = omega arith; is_open = o2; rest = forms_behind; schema = one.put.schema; sound = one.put.sound }) in
-            let has : c.now.schema ≡ schema_4 = two.0.schema ∙ one.put.schema in
-            let o3 = packs.0.is_open (omega arith) o2 in
-            let three = heads.puts (omega arith) o3 has (subst (λ schema. IsSound schema c.now.trees) has two.0.sound) in
-            let four = details.puts clean (heads.is_open (omega arith) o3) three.schema three.sound in
-            own_put sound one two three four;
-      }
+-- What is put by itself, and what is put behind it, is what is added.
+pub all_then : (a b c : State) (additions : Additions) (periods : List PeriodRow) (jobs : List JobRow)
+    → AreRowsOf IsRowOfPeriod additions.periods.items periods → AreRowsOf IsRowOfJob additions.jobs.items jobs
+    → HasCleanDisk c → IsAt current_schema b → PutsOwn current_layout GainsForms a b additions
+    → PutsRestThere current_schema b c additions periods jobs → HasAddedOf current_layout GainsForms additions a.now.trees c.now.trees
+all_then a b c additions periods jobs of_periods of_jobs clean there own rest =
+    all_put current_layout GainsForms steady_forms a b c additions periods jobs of_periods of_jobs own rest
+    (rest.puts clean there.is_open there.schema there.sound)

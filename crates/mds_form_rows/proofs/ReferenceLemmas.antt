@@ -23,9 +23,10 @@ use Rattle.mds_selects.proofs.MemberLemmas.{all_has}
 use Rattle.mds_selects.proofs.QueryLemmas.{kept}
 use Rattle.mds_selects.proofs.TypedLemmas.{AreFor, AreTyped, alike, both}
 use Rattle.mds_selects.proofs.TypedRows.{HasKeyCells, head_row}
+use Rattle.mds_pack_rows.specs.Current.{current_more, current_schema, current_tables}
 use Rattle.mds_pack_rows.specs.DailyTables.{daydetails_then}
 use Rattle.mds_pack_rows.specs.FormLayout.{day_in}
-use Rattle.mds_pack_rows.specs.FormTables.{form_key, form_table, formed, forms, schema_4, tables_4, to_pack}
+use Rattle.mds_pack_rows.specs.FormTables.{form_key, form_table, forms, to_pack}
 use Rattle.mds_pack_rows.specs.PackCells.{key_cells}
 use Rattle.mds_pack_rows.specs.PackTables.{pack_key, pack_table, pack_tree}
 use Rattle.mds_pack_rows.proofs.AskLemmas.{pack_row}
@@ -66,11 +67,11 @@ one_day_in parent row its mine a b c =
 
 -- ---- where the references of mds_form and of mds_pack point to
 
-points_to_pack : parent_key tables_4 to_pack ≡ Some (pack_tree, pack_key, plain)
+points_to_pack : parent_key current_tables to_pack ≡ Some (pack_tree, pack_key, plain)
 unfolding same_name joined
 points_to_pack = refl
 
-points_to_head : parent_key tables_4 to_head ≡ Some (head_tree, day_key, plain)
+points_to_head : parent_key current_tables to_head ≡ Some (head_tree, day_key, plain)
 unfolding same_name joined
 points_to_head = refl
 
@@ -95,11 +96,11 @@ agrees_four parent row h = let more = both _ _ h in let last = both _ _ more.1 i
 form_for : (s : Stream) (day update : ℕ) → AreFor form_table.columns (key_cells s day update)
 form_for s day update = ((codes "nmi", refl), ((codes "suffix", refl), ((codes "day", refl), ((codes "moment", refl), tt))))
 
-module _ (db : Trees) (sound : IsSound schema_4 db) where
+module _ (db : Trees) (sound : IsSound current_schema db) where
   form_typed : (row : Row) → Member row (db form_tree) → AreTyped form_table.columns row
   form_typed row m =
       let fits = (sound.obeys.rules Datatype).1.1.1.1.1.1.1.1.1.1.0 in
-      let it = kept formed db sound row form_table (db form_tree) fits (sound.obeys.rules NotNull).1.1.1.1.1.1.1.1.1.1.0 m in
+      let it = kept current_more db sound row form_table (db form_tree) fits (sound.obeys.rules NotNull).1.1.1.1.1.1.1.1.1.1.0 m in
       record { typed = (both _ _ it.0).0; present = it.1 }
 
   -- a row of mds_form is of the day of one of mds_pack
@@ -108,9 +109,9 @@ module _ (db : Trees) (sound : IsSound schema_4 db) where
       let s : Stream = record { nmi = []; suffix = [] } in
       let it = alike form_table.columns (key_cells s 0 0) row (form_for s 0 0) (form_typed row m) in
       let obeys = (sound.obeys.rules ForeignKey).1.1.1.1.1.1.1.1.1.1.0 in
-      let refers = (both _ _ (all_has (λ r. passes ForeignKey schema_4 db form_table r ≡ true) (db form_tree) row obeys m)).0 in
+      let refers = (both _ _ (all_has (λ r. passes ForeignKey current_schema db form_table r ≡ true) (db form_tree) row obeys m)).0 in
       let whole : has_null form_key row ≡ false = none_four _ _ _ _ (ap is_null it.0) (ap is_null it.1.0) (ap is_null it.1.1.0) (ap is_null it.1.1.1.0) in
-      let found = has_its tables_4 db row to_pack (pack_tree, pack_key, plain) points_to_pack whole refers in
+      let found = has_its current_tables db row to_pack (pack_tree, pack_key, plain) points_to_pack whole refers in
       let same = agrees_four found.0 row found.2 in (
         found.0,
         found.1,
@@ -123,11 +124,11 @@ module _ (db : Trees) (sound : IsSound schema_4 db) where
   has_head row m =
       let it = pack_row (daydetails_then forms) db sound row m in
       let obeys = (sound.obeys.rules ForeignKey).1.1.1.1.1.1.1.1.0 in
-      let refers = (both _ _ (all_has (λ r. passes ForeignKey schema_4 db pack_table r ≡ true) (db pack_tree) row obeys m)).0 in
+      let refers = (both _ _ (all_has (λ r. passes ForeignKey current_schema db pack_table r ≡ true) (db pack_tree) row obeys m)).0 in
       let whole : has_null day_key row ≡ false = none_three _ _ _ (ap is_null it.nmi) (ap is_null it.suffix) (ap is_null it.number) in
-      let found = has_its tables_4 db row to_head (head_tree, day_key, plain) points_to_head whole refers in
+      let found = has_its current_tables db row to_head (head_tree, day_key, plain) points_to_head whole refers in
       let same = agrees_three found.0 row found.2 in
-      (found.0, found.1, one_day_in found.0 row (head_row formed db sound found.0 found.1) it same.0 same.1 same.2)
+      (found.0, found.1, one_day_in found.0 row (head_row current_more db sound found.0 found.1) it same.0 same.1 same.2)
 
   -- So a row of mds_head is of the day of each row of mds_form.
   pub has_day : (row : Row) → Member row (db form_tree) → (head : Row) × Member head (db head_tree) × (day_in head ≡ day_in row)

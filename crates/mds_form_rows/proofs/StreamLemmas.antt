@@ -31,8 +31,7 @@ use Rattle.mds_tables.proofs.Named.{of_period}
 use Rattle.mds_selects.specs.Shown.{SaysDay, SelectsFirst, falling, rising}
 use Rattle.mds_selects.proofs.Listed.{on_stream, stream_on}
 use Rattle.mds_selects.proofs.TypedRows.{period_row}
-use Rattle.mds_pack_rows.specs.FormLayout.{forms_layout, world_4}
-use Rattle.mds_pack_rows.specs.FormTables.{formed, schema_4}
+use Rattle.mds_pack_rows.specs.Current.{current_layout, current_more, current_schema, current_world}
 use Rattle.mds_form_rows.specs.FormRows.{form_day}
 use Rattle.mds_form_rows.specs.StreamRows.{AreStreamsIn, SaysStream, ShowsStream}
 use Rattle.mds_form_rows.proofs.FormNamed.{form_head, form_named, form_row, named_form}
@@ -72,10 +71,10 @@ stream_of none (JobIs id content count) = none
 period_at : (r : Row) → (key : PeriodKey) × (content : PeriodContent) × (period_fact r ≡ PeriodIs key content) × (key.stream ≡ stream_in r)
 period_at r = (_, _, refl, refl)
 
-module _ (trees : Trees) (sound : IsSound schema_4 trees) where
+module _ (trees : Trees) (sound : IsSound current_schema trees) where
   module _ (rows : List Row) (s : Stream) where
     head_streams : Selects form_tree [] stream_columns trees rows
-        → ShowsStream rows s ↔ ((head : Head) × (HeadIs head ∈ world_4 trees) × (head.stream ≡ s))
+        → ShowsStream rows s ↔ ((head : Head) × (HeadIs head ∈ current_world trees) × (head.stream ≡ s))
     head_streams sel = (
       (λ t.
           let f = (sel t.0).0 t.1 in
@@ -93,20 +92,20 @@ module _ (trees : Trees) (sound : IsSound schema_4 trees) where
 
     period_streams : Selects period_tree [] stream_columns trees rows
         → ShowsStream rows s
-        ↔ ((key : PeriodKey) × (content : PeriodContent) × (PeriodIs key content ∈ world_4 trees) × (key.stream ≡ s))
+        ↔ ((key : PeriodKey) × (content : PeriodContent) × (PeriodIs key content ∈ current_world trees) × (key.stream ≡ s))
     period_streams sel = (
       (λ t.
           let f = (sel t.0).0 t.1 in
           let p = period_at f.0 in (
             p.0,
             p.1,
-            (of_period forms_layout trees p.0 p.1).1 (f.0, f.1, p.2),
+            (of_period current_layout trees p.0 p.1).1 (f.0, f.1, p.2),
             p.3 ∙ names_stream f.0 t.0 s f.3 t.2,
           )),
       (λ p.
-          let n = (of_period forms_layout trees p.0 p.1).0 p.2 in
+          let n = (of_period current_layout trees p.0 p.1).0 p.2 in
           let on : stream_in n.0 ≡ s = ap (stream_of p.0.stream) n.2 ∙ p.3 in
-          let it = period_row formed trees sound n.0 n.1 in (
+          let it = period_row current_more trees sound n.0 n.1 in (
             column n.0 1 ∷ column n.0 2 ∷ [],
             (sel (column n.0 1 ∷ column n.0 2 ∷ [])).1 (n.0, n.1, refl, refl),
             (it.nmi ∙ ap (λ (x : Stream). Text x.nmi) on, it.suffix ∙ ap (λ (x : Stream). Text x.suffix) on),
@@ -116,7 +115,7 @@ module _ (trees : Trees) (sound : IsSound schema_4 trees) where
   -- the known streams
   pub finds_streams : (heads periods : List Row) → Selects form_tree [] stream_columns trees heads
       → Selects period_tree [] stream_columns trees periods → (streams : List Stream) → AreStreamsIn heads periods streams
-      → AllPairs (λ a b. stream_cmp a b ≡ Less) streams → AreKnownStreams (world_4 trees) streams
+      → AllPairs (λ a b. stream_cmp a b ≡ Less) streams → AreKnownStreams (current_world trees) streams
   finds_streams heads periods of_heads of_periods streams are up = record {
     each = λ s. (
       (λ m. elim ((are s).0 m) [
@@ -139,7 +138,7 @@ no_later : (z : ℤ) (first last : ℕ) → is_lt (int_cmp z (pos first)) ≡ fa
 no_later (pos n) first last f l = grind (arith, ints)
 no_later (negsuc n) first last f l = absurd (cc)
 
-module _ (s : Stream) (trees : Trees) (sound : IsSound schema_4 trees) where
+module _ (s : Stream) (trees : Trees) (sound : IsSound current_schema trees) where
   abbrev IsFirst : List Row → Type 0
   IsFirst = SelectsFirst rising form_tree (stream_cells s) form_day trees
 
@@ -147,7 +146,7 @@ module _ (s : Stream) (trees : Trees) (sound : IsSound schema_4 trees) where
   IsLast = SelectsFirst falling form_tree (stream_cells s) form_day trees
 
   -- a known day has a row of its stream
-  row_of : (day : ℕ) → IsKnownDay (world_4 trees) s day
+  row_of : (day : ℕ) → IsKnownDay (current_world trees) s day
       → (row : Row) × Member row (trees form_tree) × Begins (stream_cells s) row × (natural_at row 3 ≡ day)
   row_of day k =
       let n = form_named trees k.0 k.1 in (
@@ -169,7 +168,7 @@ module _ (s : Stream) (trees : Trees) (sound : IsSound schema_4 trees) where
       (sym (ap is_lt (value_cmp-Int (pos day) (int_at r 3))) ∙ (rw (number, is) at (greatest.1 r m b)))
 
   pub finds_last : (first last : List Row) → IsFirst first → IsLast last → (low : Option ℕ) → SaysDay first low → (high : Option ℕ)
-      → SaysDay last high → IsLastDayOf (world_4 trees) s high
+      → SaysDay last high → IsLastDayOf (current_world trees) s high
   finds_last first last least greatest low says None none = λ day k.
       let r = row_of day k in subst IsLast none greatest r.0 r.1 r.2
   finds_last first last least greatest low says (Some day) is =

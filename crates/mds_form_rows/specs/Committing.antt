@@ -1,7 +1,6 @@
 -- What the steps of a commit do, before the contract of all of it (profile).
-use Rattle.std.specs.Prelude.{◌≡◌, ◌⊎◌, List, IsTrue}
-use Rattle.sqlite.specs.State.{HasCleanDisk, State}
-use Rattle.sqlite_catalog.specs.Listing.{IsSound}
+use Rattle.std.specs.Prelude.{◌≡◌, ◌⊎◌, List}
+use Rattle.sqlite.specs.State.{State}
 use Rattle.sqlite_value.specs.Order.{Row}
 use Rattle.mds_world.specs.Lists.{Member}
 use Rattle.mds_world.specs.declared.facts.Head.{Head}
@@ -10,8 +9,8 @@ use Rattle.mds_keeper.specs.declared.additions.Additions.{Additions}
 use Rattle.mds_tables.specs.Tables.{head_tree}
 use Rattle.mds_inserts.specs.Parts.{head_part}
 use Rattle.mds_inserts.specs.Writing.{Puts}
+use Rattle.mds_pack_rows.specs.Current.{current_schema}
 use Rattle.mds_pack_rows.specs.FormLayout.{day_in, unit_in}
-use Rattle.mds_pack_rows.specs.FormTables.{schema_4}
 use Rattle.mds_form_rows.specs.FormPutting.{SayUnits, day_of}
 
 -- Rows for the days of these heads were added to those of mds_head, which stay. The unit found for a row stays, too, unless the row
@@ -20,16 +19,8 @@ pub record KeepsUnits (heads : List Head) (old new : List Row) : Type 0 where
   pub rows : (row : Row) → Member row old → Member row new
   pub units : (row : Row) → (unit_in new row ≡ unit_in old row) ⊎ ((head : Head) × Member head heads × (day_in row ≡ day_of head))
 
-module _ (old new : State) (additions : Additions) where
-  -- The new days have their rows in mds_head, which says the units of all heads that are added.
-  pub record PutsDays : Type 0 where
-    pub put : Puts schema_4 head_part old new additions.new_days.items
-    pub keeps : KeepsUnits additions.new_days.items (old.now.trees head_tree) (new.now.trees head_tree)
-    pub say : SayUnits (heads_of additions) new.now.trees
-
-  -- the same, if the connection is open and the schema is 4
-  pub record PutsDaysThere : Type 0 where
-    pub was_open : HasCleanDisk new → IsTrue new.is_open → IsTrue old.is_open
-    pub is_open : HasCleanDisk new → IsTrue old.is_open → IsTrue new.is_open
-    pub inside : HasCleanDisk new → IsTrue old.in_transaction → IsTrue new.in_transaction
-    pub puts : HasCleanDisk new → IsTrue old.is_open → old.now.schema ≡ schema_4 → IsSound schema_4 old.now.trees → PutsDays
+-- The new days have their rows in mds_head, which says the units of all heads that are added.
+pub record PutsDays (old new : State) (additions : Additions) : Type 0 where
+  pub put : Puts current_schema head_part old new additions.new_days.items
+  pub keeps : KeepsUnits additions.new_days.items (old.now.trees head_tree) (new.now.trees head_tree)
+  pub say : SayUnits (heads_of additions) new.now.trees

@@ -1,7 +1,5 @@
 -- What statements on mds_form do in a transaction, and what a commit of schema 4 leaves (profile).
-use Rattle.std.specs.Prelude.{◌≡◌, List, [], map, IsTrue}
-use Rattle.sqlite.specs.State.{HasCleanDisk, State}
-use Rattle.sqlite_catalog.specs.Listing.{IsSound}
+use Rattle.std.specs.Prelude.{◌≡◌, List, [], map}
 use Rattle.sqlite_trees.specs.Tree.{Trees}
 use Rattle.sqlite_value.specs.Order.{Row}
 use Rattle.mds_world.specs.Facts.{head_at}
@@ -15,27 +13,8 @@ use Rattle.mds_tables.specs.RowFacts.{text_at, unit_named}
 use Rattle.mds_tables.specs.Stores.{Gained, Gains}
 use Rattle.mds_tables.specs.Tables.{daydetail_tree, form_tree, head_tree}
 use Rattle.mds_inserts.specs.Parts.{Part}
-use Rattle.mds_inserts.specs.Writing.{Keeps}
-use Rattle.mds_pack_rows.specs.DailyTables.{tables_3}
 use Rattle.mds_pack_rows.specs.FormLayout.{day_in, form_fact}
-use Rattle.mds_pack_rows.specs.FormTables.{schema_4}
 use Rattle.mds_pack_rows.specs.Putting.{NamesMore}
-
--- The connection was open over the tables of schema 4, and the disk is honest up to the end.
-pub record IsThereFormed (old new : State) : Type 0 where
-  pub clean : HasCleanDisk new
-  pub is_open : IsTrue old.is_open
-  pub schema : old.now.schema ≡ schema_4
-  pub sound : IsSound schema_4 old.now.trees
-
--- mds_form follows the tables of schema 3, which are as they were, and has no row. Nothing is committed.
-pub record MakesForm (old new : State) : Type 0 where
-  pub is_open : IsTrue new.is_open
-  pub schema : new.now.schema ≡ schema_4
-  pub others : Keeps old.now.trees new.now.trees tables_3
-  pub none : new.now.trees form_tree ≡ []
-  pub committed : new.committed ≡ old.committed
-  pub sound : IsSound schema_4 new.now.trees
 
 -- A head, kept as a row of mds_form. The row doesn't say its unit: here it is the unit of the empty text.
 abbrev pub form_part : Part Head

@@ -5,49 +5,50 @@ ghost use Rattle.sqlite.specs.Held.{state};
 ghost use Rattle.sqlite.specs.State.{HasCleanDisk, KeepsCommit, Survives};
 ghost use Rattle.mds_keeper.specs.Content.{heads_of};
 ghost use Rattle.mds_tables.specs.Stores.{AreRowsOf, CommitsOf, HoldsOf, LeavesAddedOf};
+ghost use Rattle.mds_inserts.specs.Frames.{Frames, IsAt};
 ghost use Rattle.mds_inserts.specs.MadeRows.{IsRowOfJob, IsRowOfPeriod};
-ghost use Rattle.mds_inserts.specs.Writing.{LeavesWrittenOf, PutsAllOf, PutsOwnThere, PutsThere, WritesOf};
-ghost use Rattle.mds_pack_rows.specs.FormLayout.{forms_layout};
-ghost use Rattle.mds_pack_rows.specs.FormTables.{schema_4};
-ghost use Rattle.mds_form_rows.specs.Committing.{PutsDaysThere};
-ghost use Rattle.mds_form_rows.specs.FormPutting.{GainsForms, IsThereFormed, form_part};
+ghost use Rattle.mds_inserts.specs.Writing.{HasAddedOf, LeavesWrittenOf, Puts, PutsOwn, WritesOf};
+ghost use Rattle.mds_pack_rows.specs.Current.{current_layout, current_schema};
+ghost use Rattle.mds_form_rows.specs.Committing.{PutsDays};
+ghost use Rattle.mds_form_rows.specs.FormPutting.{GainsForms, form_part};
 
-use crate::putting::put_forms;
+use crate::forms::FormTable;
 use crate::units::have_units;
-use mds_inserts::{JobRow, PeriodRow, put_heads, put_rest};
+use mds_inserts::{HeadTable, JobRow, PeriodRow, put_all, put_rest};
 use mds_keeper::{Additions, Unavailable};
 use mds_pack_rows::{put_days, put_details};
 use mds_tables::{or_unavailable, ready};
+use mds_world::Head;
 use sqlite::{Alter, Connection, Transaction};
 use std::alloc::Global;
 
 /// Puts the rows of new days, and tests that mds_head says the unit of each added head. So the earlier heads keep their units.
 fn put_new_days<S: Alter>(
+    alloc: Global,
     tx: &mut Transaction<'_, S>,
     additions: &Additions,
 ) -> Result<(), Unavailable>
     ensures same_reference { tx.new.conn.ghost_name ≡ tx.old.conn.ghost_name }
-    ensures ok { OnOk result (PutsDaysThere (state S.Store tx.old.conn.now) (state S.Store tx.new.conn.now) additions.now) }
-    ensures kept { IsThereFormed (state S.Store tx.old.conn.now) (state S.Store tx.new.conn.now) → KeepsCommit (state S.Store tx.old.conn.now) (state S.Store tx.new.conn.now) }
-    ensures survives { Survives (state S.Store tx.old.conn.now) (state S.Store tx.new.conn.now) (λ _. ⊥) }
+    ensures frames { Frames current_schema (λ _. PutsDays (state S.Store tx.old.conn.now) (state S.Store tx.new.conn.now) additions.now) (state S.Store tx.old.conn.now) (state S.Store tx.new.conn.now) result }
 {
-    or_unavailable(put_heads(tx, &additions.new_days))?;
+    or_unavailable(put_all::<(), Head, HeadTable, S>(alloc, tx, &(), &additions.new_days))?;
     have_units(tx, &additions.new_days)?;
     have_units(tx, &additions.heads)
 }
 
 /// Puts a row for each head. Its versions are there already, since the row refers to theirs.
 fn put_all_forms<S: Alter>(
+    alloc: Global,
     tx: &mut Transaction<'_, S>,
     additions: &Additions,
 ) -> Result<(), Unavailable>
     ensures same_reference { tx.new.conn.ghost_name ≡ tx.old.conn.ghost_name }
-    ensures ok { OnOk result (PutsThere schema_4 form_part (state S.Store tx.old.conn.now) (state S.Store tx.new.conn.now) (heads_of additions.now)) }
-    ensures kept { HasCleanDisk (state S.Store tx.new.conn.now) → KeepsCommit (state S.Store tx.old.conn.now) (state S.Store tx.new.conn.now) }
-    ensures survives { Survives (state S.Store tx.old.conn.now) (state S.Store tx.new.conn.now) (λ _. ⊥) }
+    ensures frames { Frames current_schema (λ _. Puts current_schema form_part (state S.Store tx.old.conn.now) (state S.Store tx.new.conn.now) (heads_of additions.now)) (state S.Store tx.old.conn.now) (state S.Store tx.new.conn.now) result }
 {
-    put_forms(tx, &additions.new_days)?;
-    put_forms(tx, &additions.heads)
+    let new_days = &additions.new_days;
+    let heads = &additions.heads;
+    or_unavailable(put_all::<(), Head, FormTable, S>(alloc, tx, &(), new_days))?;
+    or_unavailable(put_all::<(), Head, FormTable, S>(alloc, tx, &(), heads))
 }
 
 /// Puts heads, versions and details of days. New days come first, since rows of mds_pack and mds_daydetail refer to them.
@@ -57,11 +58,9 @@ fn put_own<S: Alter>(
     additions: &Additions,
 ) -> Result<(), Unavailable>
     ensures same_reference { tx.new.conn.ghost_name ≡ tx.old.conn.ghost_name }
-    ensures ok { OnOk result (PutsOwnThere forms_layout GainsForms (state S.Store tx.old.conn.now) (state S.Store tx.new.conn.now) additions.now) }
-    ensures kept { IsThereFormed (state S.Store tx.old.conn.now) (state S.Store tx.new.conn.now) → KeepsCommit (state S.Store tx.old.conn.now) (state S.Store tx.new.conn.now) }
-    ensures survives { Survives (state S.Store tx.old.conn.now) (state S.Store tx.new.conn.now) (λ _. ⊥) }
+    ensures frames { Frames current_schema (λ _. PutsOwn current_layout GainsForms (state S.Store tx.old.conn.now) (state S.Store tx.new.conn.now) additions.now) (state S.Store tx.old.conn.now) (state S.Store tx.new.conn.now) result }
 {
-    put_new_days(tx, additions)?;
+    put_new_days(alloc, tx, additions)?;
     put_days(
         alloc,
         tx,
@@ -69,12 +68,12 @@ fn put_own<S: Alter>(
         &additions.heads,
         &additions.days,
     )?;
-    put_all_forms(tx, additions)?;
-    put_details(tx, &additions.details)
+    put_all_forms(alloc, tx, additions)?;
+    put_details(alloc, tx, &additions.details)
 }
 
 /// Puts all additions.
-fn put_all<S: Alter>(
+fn put_additions<S: Alter>(
     alloc: Global,
     tx: &mut Transaction<'_, S>,
     additions: &Additions,
@@ -84,12 +83,10 @@ fn put_all<S: Alter>(
     requires periods { AreRowsOf IsRowOfPeriod additions.now.periods.items periods.now }
     requires jobs { AreRowsOf IsRowOfJob additions.now.jobs.items jobs.now }
     ensures same_reference { tx.new.conn.ghost_name ≡ tx.old.conn.ghost_name }
-    ensures ok { OnOk result (PutsAllOf forms_layout GainsForms (state S.Store tx.old.conn.now) (state S.Store tx.new.conn.now) additions.now) }
-    ensures kept { IsThereFormed (state S.Store tx.old.conn.now) (state S.Store tx.new.conn.now) → KeepsCommit (state S.Store tx.old.conn.now) (state S.Store tx.new.conn.now) }
-    ensures survives { Survives (state S.Store tx.old.conn.now) (state S.Store tx.new.conn.now) (λ _. ⊥) }
+    ensures frames { Frames current_schema (λ _. HasAddedOf current_layout GainsForms additions.now (state S.Store tx.old.conn.now).now.trees (state S.Store tx.new.conn.now).now.trees) (state S.Store tx.old.conn.now) (state S.Store tx.new.conn.now) result }
 {
     put_own(alloc, tx, additions)?;
-    or_unavailable(put_rest(tx, additions, periods, jobs))
+    or_unavailable(put_rest(alloc, tx, additions, periods, jobs))
 }
 
 /// Puts all additions in a transaction of its own.
@@ -103,13 +100,14 @@ fn write<S: Alter>(
     requires mode { conn.old.in_transaction ≡ false }
     requires periods { AreRowsOf IsRowOfPeriod additions.now.periods.items periods.now }
     requires jobs { AreRowsOf IsRowOfJob additions.now.jobs.items jobs.now }
-    ensures ok { HasCleanDisk (state S.Store conn.new) → OnOk result (WritesOf forms_layout GainsForms (state S.Store conn.old) (state S.Store conn.new) additions.now) }
-    ensures err { IsThereFormed (state S.Store conn.old) (state S.Store conn.new) → OnErr result (KeepsCommit (state S.Store conn.old) (state S.Store conn.new)) }
+    ensures ok { HasCleanDisk (state S.Store conn.new) → OnOk result (WritesOf current_layout GainsForms (state S.Store conn.old) (state S.Store conn.new) additions.now) }
+    ensures err { HasCleanDisk (state S.Store conn.new) → IsAt current_schema (state S.Store conn.old)
+        → OnErr result (KeepsCommit (state S.Store conn.old) (state S.Store conn.new)) }
     ensures mode { conn.new.in_transaction ≡ false }
-    ensures survives { Survives (state S.Store conn.old) (state S.Store conn.new) (LeavesWrittenOf forms_layout GainsForms (state S.Store conn.old) additions.now) }
+    ensures survives { Survives (state S.Store conn.old) (state S.Store conn.new) (LeavesWrittenOf current_layout GainsForms (state S.Store conn.old) additions.now) }
 {
     let mut tx = conn.transaction();
-    put_all(alloc, &mut tx, additions, periods, jobs)?;
+    put_additions(alloc, &mut tx, additions, periods, jobs)?;
     or_unavailable(tx.commit())?;
     Ok(())
 }
@@ -127,13 +125,13 @@ pub fn commit<S: Alter>(
     requires mode { conn.old.in_transaction ≡ false }
     requires periods { AreRowsOf IsRowOfPeriod additions.now.periods.items periods.now }
     requires jobs { AreRowsOf IsRowOfJob additions.now.jobs.items jobs.now }
-    ensures ok { HasCleanDisk (state S.Store conn.new) → HoldsOf forms_layout (state S.Store conn.old)
-        → OnOk result (CommitsOf forms_layout GainsForms (state S.Store conn.old) (state S.Store conn.new) additions.now) }
-    ensures err { HasCleanDisk (state S.Store conn.new) → HoldsOf forms_layout (state S.Store conn.old)
+    ensures ok { HasCleanDisk (state S.Store conn.new) → HoldsOf current_layout (state S.Store conn.old)
+        → OnOk result (CommitsOf current_layout GainsForms (state S.Store conn.old) (state S.Store conn.new) additions.now) }
+    ensures err { HasCleanDisk (state S.Store conn.new) → HoldsOf current_layout (state S.Store conn.old)
         → OnErr result (KeepsCommit (state S.Store conn.old) (state S.Store conn.new)) }
     ensures mode { conn.new.in_transaction ≡ false }
-    ensures survives { HoldsOf forms_layout (state S.Store conn.old)
-        → Survives (state S.Store conn.old) (state S.Store conn.new) (LeavesAddedOf forms_layout GainsForms (state S.Store conn.old) additions.now) }
+    ensures survives { HoldsOf current_layout (state S.Store conn.old)
+        → Survives (state S.Store conn.old) (state S.Store conn.new) (LeavesAddedOf current_layout GainsForms (state S.Store conn.old) additions.now) }
 {
     or_unavailable(ready(conn))?;
     write(alloc, conn, additions, periods, jobs)

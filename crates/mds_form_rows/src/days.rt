@@ -8,7 +8,7 @@ ghost use Rattle.mds_keeper.specs.Books.{IsDay};
 ghost use Rattle.mds_tables.specs.Queries.{Answers};
 ghost use Rattle.mds_tables.specs.RowFacts.{text_at, unit_named};
 ghost use Rattle.mds_tables.specs.Stores.{HoldsOf};
-ghost use Rattle.mds_pack_rows.specs.FormLayout.{forms_layout, world_4};
+ghost use Rattle.mds_pack_rows.specs.Current.{current_layout, current_world};
 ghost use Rattle.mds_form_rows.specs.FormRows.{IsBookOf};
 
 use crate::books::book_of;
@@ -29,8 +29,8 @@ pub fn day_of<S: Alter>(
     day: Day,
 ) -> Result<DayBook, Unavailable>
     requires { conn.old.in_transaction ≡ false }
-    ensures book { Answers (HoldsOf forms_layout) (state S.Store conn.old) (state S.Store conn.new) result
-        (λ trees book. IsDay (world_4 trees) book) }
+    ensures book { Answers (HoldsOf current_layout) (state S.Store conn.old) (state S.Store conn.new) result
+        (λ trees book. IsDay (current_world trees) book) }
     ensures of_day { IfOk result (λ book. (book.stream ≡ stream.now) × (book.day ≡ day)) }
 {
     or_unavailable(ready(conn))?;

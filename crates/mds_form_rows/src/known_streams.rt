@@ -13,7 +13,7 @@ ghost use Rattle.mds_tables.specs.Stores.{HoldsOf};
 ghost use Rattle.mds_selects.specs.Added.{AreAdded, IsAdded};
 ghost use Rattle.mds_selects.specs.Shown.{SaysDay};
 ghost use Rattle.mds_selects.specs.Written.{IsDay};
-ghost use Rattle.mds_pack_rows.specs.FormLayout.{forms_layout, world_4};
+ghost use Rattle.mds_pack_rows.specs.Current.{current_layout, current_world};
 ghost use Rattle.mds_form_rows.specs.StreamRows.{AreStreamsIn, SaysStream};
 
 use crate::statements::{first_day_rows, form_stream_rows, last_day_rows, period_stream_rows};
@@ -31,8 +31,8 @@ pub fn last_day<S: Alter>(
     stream: &Stream,
 ) -> Result<Option<Day>, Unavailable>
     requires { conn.old.in_transaction ≡ false }
-    ensures { Answers (HoldsOf forms_layout) (state S.Store conn.old) (state S.Store conn.new) result
-        (λ trees. IsLastDayOf (world_4 trees) stream.now) }
+    ensures { Answers (HoldsOf current_layout) (state S.Store conn.old) (state S.Store conn.new) result
+        (λ trees. IsLastDayOf (current_world trees) stream.now) }
 {
     or_unavailable(ready(conn))?;
     let first = or_unavailable(first_day_rows(conn, stream))?;
@@ -67,8 +67,8 @@ pub fn streams<S: Alter>(
     conn: &mut Connection<S>,
 ) -> Result<Vec<Stream>, Unavailable>
     requires { conn.old.in_transaction ≡ false }
-    ensures { Answers (HoldsOf forms_layout) (state S.Store conn.old) (state S.Store conn.new) result
-        (λ trees streams. AreKnownStreams (world_4 trees) streams.items) }
+    ensures { Answers (HoldsOf current_layout) (state S.Store conn.old) (state S.Store conn.new) result
+        (λ trees streams. AreKnownStreams (current_world trees) streams.items) }
 {
     or_unavailable(ready(conn))?;
     let heads = or_unavailable(form_stream_rows(conn))?;

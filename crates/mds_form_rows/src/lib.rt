@@ -11,18 +11,16 @@
 mod books;
 mod committing;
 mod days;
-mod known;
+mod forms;
 mod known_streams;
 mod making;
-mod putting;
 mod ranges;
 mod statements;
 mod units;
 
 pub use committing::commit;
 pub use days::day_of;
-pub use known::has_schema_4;
+pub use forms::FormTable;
 pub use known_streams::{last_day, streams};
-pub use making::{make_form, make_tables};
-pub use putting::{put_form, put_forms};
+pub use making::make_tables;
 pub use ranges::days_of;

@@ -6,39 +6,16 @@ ghost use Rattle.sqlite.specs.State.{HasCleanDisk, KeepsCommit, Survives};
 ghost use Rattle.mds_tables.specs.Causes.{HasFailed};
 ghost use Rattle.mds_tables.specs.Making.{CommitsMadeOf, HasMadeOf, IsMadeOf, LeavesMadeOf, MakesThere};
 ghost use Rattle.mds_tables.specs.Tables.{no_schema};
-ghost use Rattle.mds_pack_rows.specs.DailyTables.{schema_3};
-ghost use Rattle.mds_pack_rows.specs.FormLayout.{forms_layout};
-ghost use Rattle.mds_pack_rows.specs.FormTables.{schema_4};
-ghost use Rattle.mds_form_rows.specs.FormPutting.{MakesForm};
+ghost use Rattle.mds_pack_rows.specs.Current.{current_layout, current_schema};
 
-use mds_pack_rows::{make_daydetail, make_pack};
-use mds_tables::{make_empty, ready, say_version};
+use mds_pack_rows::make_table;
+use mds_tables::{ready, say_version};
 use sqlite::{Alter, Connection, Error, Transaction};
-
-/// Makes mds_form, without a row, after the tables of schema 3.
-pub fn make_form<S: Alter>(tx: &mut Transaction<'_, S>) -> Result<(), Error>
-    ensures same_reference { tx.new.conn.ghost_name ≡ tx.old.conn.ghost_name }
-    ensures ok { OnOk result (MakesThere schema_3 schema_4 (state S.Store tx.old.conn.now) (state S.Store tx.new.conn.now)) }
-    ensures makes { OnOk result (HasCleanDisk (state S.Store tx.new.conn.now) → IsTrue (state S.Store tx.old.conn.now).is_open
-        → (state S.Store tx.old.conn.now).now.schema ≡ schema_3 → MakesForm (state S.Store tx.old.conn.now) (state S.Store tx.new.conn.now)) }
-    ensures cause { HasCleanDisk (state S.Store tx.new.conn.now) → IsTrue (state S.Store tx.old.conn.now).in_transaction
-        → (state S.Store tx.old.conn.now).now.schema ≡ schema_3
-        → IfErr result (HasFailed (state S.Store tx.old.conn.now) (state S.Store tx.new.conn.now)) }
-    ensures kept { HasCleanDisk (state S.Store tx.new.conn.now) → KeepsCommit (state S.Store tx.old.conn.now) (state S.Store tx.new.conn.now) }
-    ensures survives { Survives (state S.Store tx.old.conn.now) (state S.Store tx.new.conn.now) (λ _. ⊥) }
-{
-    // decides: which tables does a store have?
-    tx.execute(
-        "CREATE TABLE mds_form (nmi TEXT NOT NULL, suffix TEXT NOT NULL, day INTEGER NOT NULL, moment INTEGER NOT NULL, length INTEGER NOT NULL, PRIMARY KEY (nmi, suffix, day, moment), FOREIGN KEY (nmi, suffix, day, moment) REFERENCES mds_pack (nmi, suffix, day, moment)) STRICT",
-        &[],
-    )?;
-    Ok(())
-}
 
 /// Makes all of the tables, without a row.
 fn make_each<S: Alter>(tx: &mut Transaction<'_, S>) -> Result<(), Error>
     ensures same_reference { tx.new.conn.ghost_name ≡ tx.old.conn.ghost_name }
-    ensures ok { OnOk result (MakesThere no_schema schema_4 (state S.Store tx.old.conn.now) (state S.Store tx.new.conn.now)) }
+    ensures ok { OnOk result (MakesThere no_schema current_schema (state S.Store tx.old.conn.now) (state S.Store tx.new.conn.now)) }
     ensures cause { HasCleanDisk (state S.Store tx.new.conn.now) → IsTrue (state S.Store tx.old.conn.now).is_open
         → IsTrue (state S.Store tx.old.conn.now).in_transaction → (state S.Store tx.old.conn.now).now.schema ≡ no_schema
         → IfErr result (HasFailed (state S.Store tx.old.conn.now) (state S.Store tx.new.conn.now)) }
@@ -46,22 +23,22 @@ fn make_each<S: Alter>(tx: &mut Transaction<'_, S>) -> Result<(), Error>
     ensures survives { Survives (state S.Store tx.old.conn.now) (state S.Store tx.new.conn.now) (λ _. ⊥) }
 {
     // decides: which tables does a store have?
-    make_empty(tx)?;
-    make_pack(tx)?;
-    make_daydetail(tx)?;
-    make_form(tx)
+    for n in 0..11 {
+        make_table(tx, n)?;
+    }
+    Ok(())
 }
 
 /// Makes the tables, and says that the schema is 4, in a transaction of its own.
 fn make_all<S: Alter>(conn: &mut Connection<S>) -> Result<(), Error>
     requires { conn.old.in_transaction ≡ false }
-    ensures ok { HasCleanDisk (state S.Store conn.new) → OnOk result (CommitsMadeOf forms_layout (state S.Store conn.old) (state S.Store conn.new)) }
+    ensures ok { HasCleanDisk (state S.Store conn.new) → OnOk result (CommitsMadeOf current_layout (state S.Store conn.old) (state S.Store conn.new)) }
     ensures err { HasCleanDisk (state S.Store conn.new) → OnErr result (KeepsCommit (state S.Store conn.old) (state S.Store conn.new)) }
     ensures cause { HasCleanDisk (state S.Store conn.new) → IsTrue (state S.Store conn.old).is_open
         → (state S.Store conn.old).now.schema ≡ no_schema
         → IfErr result (HasFailed (state S.Store conn.old) (state S.Store conn.new)) }
     ensures mode { conn.new.in_transaction ≡ false }
-    ensures survives { Survives (state S.Store conn.old) (state S.Store conn.new) (HasMadeOf forms_layout (state S.Store conn.old)) }
+    ensures survives { Survives (state S.Store conn.old) (state S.Store conn.new) (HasMadeOf current_layout (state S.Store conn.old)) }
 {
     let mut tx = conn.transaction();
     make_each(&mut tx)?;
@@ -73,14 +50,14 @@ fn make_all<S: Alter>(conn: &mut Connection<S>) -> Result<(), Error>
 /// crash leaves what was there, or all of it.
 pub fn make_tables<S: Alter>(conn: &mut Connection<S>) -> Result<(), Error>
     requires { conn.old.in_transaction ≡ false }
-    ensures ok { HasCleanDisk (state S.Store conn.new) → OnOk result (IsMadeOf forms_layout (state S.Store conn.old) (state S.Store conn.new)) }
+    ensures ok { HasCleanDisk (state S.Store conn.new) → OnOk result (IsMadeOf current_layout (state S.Store conn.old) (state S.Store conn.new)) }
     ensures err { HasCleanDisk (state S.Store conn.new) → OnErr result (KeepsCommit (state S.Store conn.old) (state S.Store conn.new)) }
     // No rule of the database is against these tables. So the store fails, or the limit of steps is reached.
     ensures cause { HasCleanDisk (state S.Store conn.new)
         → (IsTrue (state S.Store conn.old).is_open → (state S.Store conn.old).committed.schema ≡ no_schema)
         → IfErr result (HasFailed (state S.Store conn.old) (state S.Store conn.new)) }
     ensures mode { conn.new.in_transaction ≡ false }
-    ensures survives { Survives (state S.Store conn.old) (state S.Store conn.new) (LeavesMadeOf forms_layout (state S.Store conn.old)) }
+    ensures survives { Survives (state S.Store conn.old) (state S.Store conn.new) (LeavesMadeOf current_layout (state S.Store conn.old)) }
 {
     ready(conn)?;
     make_all(conn)

@@ -10,7 +10,7 @@ ghost use Rattle.mds_tables.specs.Cells.{number_cell};
 ghost use Rattle.mds_tables.specs.Queries.{Answers};
 ghost use Rattle.mds_tables.specs.RowFacts.{natural_at};
 ghost use Rattle.mds_tables.specs.Stores.{HoldsOf};
-ghost use Rattle.mds_pack_rows.specs.FormLayout.{forms_layout, world_4};
+ghost use Rattle.mds_pack_rows.specs.Current.{current_layout, current_world};
 ghost use Rattle.mds_form_rows.specs.Cuts.{AddsDay, AreCut, DaysAscend, day_unit};
 ghost use Rattle.mds_form_rows.specs.Ranges.{AreOfDay};
 
@@ -33,8 +33,8 @@ pub fn days_of<S: Alter>(
     last: Day,
 ) -> Result<Vec<DayBook>, Unavailable>
     requires { conn.old.in_transaction ≡ false }
-    ensures { Answers (HoldsOf forms_layout) (state S.Store conn.old) (state S.Store conn.new) result
-        (λ trees books. AreDaysOf (world_4 trees) stream.now first last books.items) }
+    ensures { Answers (HoldsOf current_layout) (state S.Store conn.old) (state S.Store conn.new) result
+        (λ trees books. AreDaysOf (current_world trees) stream.now first last books.items) }
 {
     or_unavailable(ready(conn))?;
     let heads = or_unavailable(head_range_rows(conn, stream, first, last))?;

@@ -7,7 +7,7 @@ ghost use Rattle.mds_tables.specs.Queries.{QueriesOf};
 ghost use Rattle.mds_tables.specs.Stores.{Selects};
 ghost use Rattle.mds_tables.specs.Tables.{form_tree, head_tree, period_tree, stream_columns};
 ghost use Rattle.mds_selects.specs.Shown.{SelectsFirst, falling, rising};
-ghost use Rattle.mds_pack_rows.specs.FormLayout.{forms_layout};
+ghost use Rattle.mds_pack_rows.specs.Current.{current_layout};
 ghost use Rattle.mds_pack_rows.specs.PackTables.{pack_tree, update_columns};
 ghost use Rattle.mds_form_rows.specs.Cuts.{day_columns, range_columns};
 ghost use Rattle.mds_form_rows.specs.FormRows.{form_columns, form_day, unit_columns};
@@ -22,7 +22,7 @@ pub(crate) fn first_day_rows<S: Alter>(
     conn: &mut Connection<S>,
     stream: &Stream,
 ) -> Result<Vec<Row>, Error>
-    ensures { QueriesOf forms_layout (state S.Store conn.old) (state S.Store conn.new) result (SelectsFirst rising form_tree (row.stream_cells stream.now) form_day) }
+    ensures { QueriesOf current_layout (state S.Store conn.old) (state S.Store conn.new) result (SelectsFirst rising form_tree (row.stream_cells stream.now) form_day) }
 {
     conn.query_all(
         "SELECT day FROM mds_form WHERE nmi = ?1 AND suffix = ?2 ORDER BY day LIMIT 1",
@@ -35,7 +35,7 @@ pub(crate) fn last_day_rows<S: Alter>(
     conn: &mut Connection<S>,
     stream: &Stream,
 ) -> Result<Vec<Row>, Error>
-    ensures { QueriesOf forms_layout (state S.Store conn.old) (state S.Store conn.new) result (SelectsFirst falling form_tree (row.stream_cells stream.now) form_day) }
+    ensures { QueriesOf current_layout (state S.Store conn.old) (state S.Store conn.new) result (SelectsFirst falling form_tree (row.stream_cells stream.now) form_day) }
 {
     conn.query_all(
         "SELECT day FROM mds_form WHERE nmi = ?1 AND suffix = ?2 ORDER BY day DESC LIMIT 1",
@@ -45,14 +45,14 @@ pub(crate) fn last_day_rows<S: Alter>(
 
 /// The streams of all heads.
 pub(crate) fn form_stream_rows<S: Alter>(conn: &mut Connection<S>) -> Result<Vec<Row>, Error>
-    ensures { QueriesOf forms_layout (state S.Store conn.old) (state S.Store conn.new) result (Selects form_tree [] stream_columns) }
+    ensures { QueriesOf current_layout (state S.Store conn.old) (state S.Store conn.new) result (Selects form_tree [] stream_columns) }
 {
     conn.query_all("SELECT nmi, suffix FROM mds_form", &[])
 }
 
 /// The streams of all periods.
 pub(crate) fn period_stream_rows<S: Alter>(conn: &mut Connection<S>) -> Result<Vec<Row>, Error>
-    ensures { QueriesOf forms_layout (state S.Store conn.old) (state S.Store conn.new) result (Selects period_tree [] stream_columns) }
+    ensures { QueriesOf current_layout (state S.Store conn.old) (state S.Store conn.new) result (Selects period_tree [] stream_columns) }
 {
     conn.query_all("SELECT nmi, suffix FROM mds_period", &[])
 }
@@ -63,7 +63,7 @@ pub(crate) fn form_rows<S: Alter>(
     stream: &Stream,
     day: Day,
 ) -> Result<Vec<Row>, Error>
-    ensures { QueriesOf forms_layout (state S.Store conn.old) (state S.Store conn.new) result (Selects form_tree (row.day_cells stream.now day) form_columns) }
+    ensures { QueriesOf current_layout (state S.Store conn.old) (state S.Store conn.new) result (Selects form_tree (row.day_cells stream.now day) form_columns) }
 {
     conn.query_all(
         "SELECT moment, length FROM mds_form WHERE nmi = ?1 AND suffix = ?2 AND day = ?3",
@@ -77,7 +77,7 @@ pub(crate) fn pack_rows<S: Alter>(
     stream: &Stream,
     day: Day,
 ) -> Result<Vec<Row>, Error>
-    ensures { QueriesOf forms_layout (state S.Store conn.old) (state S.Store conn.new) result (Selects pack_tree (row.day_cells stream.now day) update_columns) }
+    ensures { QueriesOf current_layout (state S.Store conn.old) (state S.Store conn.new) result (Selects pack_tree (row.day_cells stream.now day) update_columns) }
 {
     conn.query_all(
         "SELECT moment, body FROM mds_pack WHERE nmi = ?1 AND suffix = ?2 AND day = ?3",
@@ -91,7 +91,7 @@ pub(crate) fn unit_rows<S: Alter>(
     stream: &Stream,
     day: Day,
 ) -> Result<Vec<Row>, Error>
-    ensures { QueriesOf forms_layout (state S.Store conn.old) (state S.Store conn.new) result (Selects head_tree (row.day_cells stream.now day) unit_columns) }
+    ensures { QueriesOf current_layout (state S.Store conn.old) (state S.Store conn.new) result (Selects head_tree (row.day_cells stream.now day) unit_columns) }
 {
     conn.query_all(
         "SELECT unit FROM mds_head WHERE nmi = ?1 AND suffix = ?2 AND day = ?3",
@@ -106,7 +106,7 @@ pub(crate) fn form_range_rows<S: Alter>(
     first: Day,
     last: Day,
 ) -> Result<Vec<Row>, Error>
-    ensures { QueriesOf forms_layout (state S.Store conn.old) (state S.Store conn.new) result (SelectsRange form_tree stream.now first last range_columns) }
+    ensures { QueriesOf current_layout (state S.Store conn.old) (state S.Store conn.new) result (SelectsRange form_tree stream.now first last range_columns) }
 {
     conn.query_all(
         "SELECT moment, length, day FROM mds_form WHERE nmi = ?1 AND suffix = ?2 AND day >= ?3 AND day <= ?4 ORDER BY day",
@@ -121,7 +121,7 @@ pub(crate) fn pack_range_rows<S: Alter>(
     first: Day,
     last: Day,
 ) -> Result<Vec<Row>, Error>
-    ensures { QueriesOf forms_layout (state S.Store conn.old) (state S.Store conn.new) result (SelectsRange pack_tree stream.now first last range_columns) }
+    ensures { QueriesOf current_layout (state S.Store conn.old) (state S.Store conn.new) result (SelectsRange pack_tree stream.now first last range_columns) }
 {
     conn.query_all(
         "SELECT moment, body, day FROM mds_pack WHERE nmi = ?1 AND suffix = ?2 AND day >= ?3 AND day <= ?4 ORDER BY day",
@@ -136,7 +136,7 @@ pub(crate) fn head_range_rows<S: Alter>(
     first: Day,
     last: Day,
 ) -> Result<Vec<Row>, Error>
-    ensures { QueriesOf forms_layout (state S.Store conn.old) (state S.Store conn.new) result (SelectsRange head_tree stream.now first last day_columns) }
+    ensures { QueriesOf current_layout (state S.Store conn.old) (state S.Store conn.new) result (SelectsRange head_tree stream.now first last day_columns) }
 {
     conn.query_all(
         "SELECT day, unit FROM mds_head WHERE nmi = ?1 AND suffix = ?2 AND day >= ?3 AND day <= ?4 ORDER BY day",

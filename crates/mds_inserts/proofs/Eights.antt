@@ -65,7 +65,7 @@ flat_more xss at xs low is =
 -- ---- the statements that put them
 
 module _ {A : Type 0} (part : Part A) where
-  statements_both : (xss yss : List (List A)) → statements_of part (xss ++ yss) ≡ statements_of part xss ++ statements_of part yss
+  pub statements_both : (xss yss : List (List A)) → statements_of part (xss ++ yss) ≡ statements_of part xss ++ statements_of part yss
   statements_both xss yss = map-append {B = ℕ × List Row} (λ items. (part.place, map part.cells items)) xss yss
 
   one_by_one : (xs ys : List A) → singly part (xs ++ ys) ≡ singly part xs ++ singly part ys
@@ -83,23 +83,3 @@ module _ {A : Type 0} (part : Part A) where
       sym (append_assoc (singly part (take at xs)) (singly part (x ∷ [])) (singly part (drop (at + 1) xs)))
       ∙ ap (λ puts. puts ++ singly part (drop (at + 1) xs)) (singly_more xs at x more)
       ∙ sym (one_by_one (take (at + 1) xs) (drop (at + 1) xs)) ∙ ap (singly part) (take-append-drop (at + 1) xs)
-
-  -- the lists up to a place, and the one there
-  pub statements_more : (xss : List (List A)) (at : ℕ) (xs : List A) → at < length xss → xs ≡ get_or xss at xs
-      → statements_of part (take at xss) ++ statements_of part (xs ∷ []) ≡ statements_of part (take (at + 1) xss)
-  statements_more xss at xs low is =
-      sym (statements_both (take at xss) (xs ∷ [])) ∙ ap (statements_of part) (sym (take_more xss at xs low ∙ ap (λ y. take at xss ++ y ∷ []) (sym is)))
-
-  -- and then those behind it, and things one by one
-  pub eights_both : (xss : List (List A)) (at : ℕ) (xs : List A) → at < length xss → xs ≡ get_or xss at xs → (ys : List A)
-      → statements_of part (take at xss) ++ (statements_of part (xs ∷ []) ++ (statements_of part (drop (at + 1) xss) ++ singly part ys))
-      ≡ statements_of part xss ++ singly part ys
-  eights_both xss at xs low is ys =
-      let front = statements_of part (take at xss) in
-      let here = statements_of part (xs ∷ []) in
-      let back = statements_of part (drop (at + 1) xss) in
-      sym (append_assoc front here (back ++ singly part ys))
-      ∙ ap (λ puts. puts ++ (back ++ singly part ys)) (statements_more xss at xs low is)
-      ∙ sym (append_assoc (statements_of part (take (at + 1) xss)) back (singly part ys))
-      ∙ ap (λ puts. puts ++ singly part ys) (sym (statements_both (take (at + 1) xss) (drop (at + 1) xss))
-      ∙ ap (statements_of part) (take-append-drop (at + 1) xss))

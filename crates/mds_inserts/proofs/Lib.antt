@@ -1,7 +1,10 @@
 pub mod ChangeLemmas
 pub mod CommitLemmas
 pub mod Eights
-pub mod HeadLemmas
+pub mod FrameLemmas
 pub mod ManyLemmas
 pub mod PutLemmas
 pub mod RowLemmas
+pub mod TabledLemmas
+pub mod TermLemmas
+pub mod TurnLemmas

@@ -21,30 +21,28 @@ use Rattle.sqlite_sql.specs.Term.{Term}
 use Rattle.sqlite_trees.specs.Tree.{Trees}
 use Rattle.sqlite_trees.specs.View.{doubt}
 use Rattle.sqlite_value.specs.Order.{Row}
-use Rattle.mds_quantity.specs.Unit.{unit_of, unit_text}
 use Rattle.mds_terms.specs.Event.{EventValue}
 use Rattle.mds_world.specs.Facts.{Fact}
-use Rattle.mds_world.specs.Facts.Fact.{EventIs, HolidayIs}
-use Rattle.mds_world.specs.declared.facts.Head.{Head}
+use Rattle.mds_world.specs.Facts.Fact.{EventIs}
 use Rattle.mds_keeper.specs.declared.additions.Additions.{Additions}
 use Rattle.mds_tables.proofs.InsertLemmas.{cast_int, simple}
-use Rattle.mds_tables.proofs.OpenTexts.{event_terms, head_terms, holiday_terms, insert_event, insert_event_is, insert_event_plain, insert_head, insert_head_is, insert_head_plain, insert_holiday, insert_holiday_is, insert_holiday_plain, insert_job, insert_job_is, insert_job_plain, insert_period, insert_period_is, insert_period_plain, job_terms, period_terms}
-use Rattle.mds_tables.specs.Cells.{event_cells, holiday_cells, optional_cell, unit_cells}
-use Rattle.mds_tables.specs.RowFacts.{event_fact, head_fact, holiday_fact, job_fact, period_fact}
+use Rattle.mds_tables.proofs.OpenTexts.{event_terms, insert_event, insert_event_is, insert_event_plain}
+use Rattle.mds_tables.specs.Cells.{event_cells, optional_cell}
+use Rattle.mds_tables.specs.RowFacts.{event_fact}
 use Rattle.mds_tables.specs.Layouts.{Layout}
 use Rattle.mds_tables.specs.Stores.{AddsOf, AreRowsOf, Gained, Gains}
-use Rattle.mds_tables.specs.Tables.{More, event_table, head_table, holiday_table, job_table, period_table, schema_with, trees_taken}
+use Rattle.mds_tables.specs.Tables.{More, event_table, schema_with, trees_taken}
 use Rattle.mds_inserts.specs.MadeRows.{IsRowOfJob, IsRowOfPeriod}
 use Rattle.mds_inserts.specs.declared.jobs.JobRow.{JobRow}
 use Rattle.mds_inserts.specs.declared.periods.PeriodRow.{PeriodRow}
-use Rattle.mds_inserts.specs.Parts.{Part, Says, event_part, head_part, holiday_part, job_part, period_part, singly, statements_of}
+use Rattle.mds_inserts.specs.Parts.{Part, Says, event_part, holiday_part, job_part, period_part, singly, statements_of}
 use Rattle.mds_inserts.specs.Refusals.{FailsToPut, RefusesOne, TakesAll, all_cells, insert_of}
-use Rattle.mds_inserts.specs.Writing.{IsMore, IsSteady, Keeps, KeepsBut, KeepsOthers, Puts, PutsAllOf, PutsOwn, PutsOwnThere, PutsRest, PutsRestThere, PutsThere, rest_trees}
+use Rattle.mds_inserts.specs.Writing.{HasAddedOf, IsMore, IsSteady, Keeps, KeepsBut, KeepsOthers, Puts, PutsOwn, PutsRest, PutsRestThere, PutsThere, rest_trees}
 use Rattle.mds_tables.proofs.CauseLemmas.{IsWhole, fails_since, fails_until, stopped_as}
 use Rattle.sqlite.specs.Rows.{Outcome}
 use Rattle.sqlite.specs.declared.error.Error.{Error}
 use Rattle.sqlite_tied.specs.Compute.{everything}
-use Rattle.mds_tables.proofs.FactLemmas.{event_back, unit_back}
+use Rattle.mds_tables.proofs.FactLemmas.{event_back}
 use Rattle.mds_inserts.proofs.ManyLemmas.{AddsAll, AreFit, adds_all, sources}
 use Rattle.mds_inserts.proofs.RowLemmas.{gains_kept, gains_more, job_rows_are, kept_gains, of, own_facts, period_rows_are, say_more, world_after}
 
@@ -118,12 +116,7 @@ module _ (more : More) (table : Table) (at : ℕ) (text : List ℕ) (terms : Lis
               (λ big. inl (as_given _ big)) (omega arith) e failed)
         ]
 
-pub puts_head : (more : More) (old new : State) (h : Head) (count : ℕ) → unit_of (unit_text h.unit) ≡ Some h.unit
-    → (HasCleanDisk new → ExecutesInside 0 insert_head (unit_cells h) old new (Ok count))
-    → PutsThere (schema_with more) head_part old new (h ∷ [])
-puts_head more old new h count reads runs =
-    puts_there more head_table 1 insert_head head_terms 6 refl (insert_head_is more) (insert_head_plain more) unit_cells head_part.fact head_fact
-    old new (h ∷ []) (unit_cells h) count refl (rw (cast_int, cast_int), tt) ((λ id. unit_back id h reads), tt) runs
+-- ---- the row of an event
 
 pub puts_event : (more : More) (old new : State) (e : EventValue) (count : ℕ)
     → (HasCleanDisk new → ExecutesInside 0 insert_event (event_cells e) old new (Ok count))
@@ -132,64 +125,9 @@ puts_event more old new e count runs =
     puts_there more event_table 4 insert_event event_terms 8 refl (insert_event_is more) (insert_event_plain more) event_cells EventIs
     event_fact old new (e ∷ []) (event_cells e) count refl (rw (cast_int, cast_optional), tt) ((λ id. event_back id e), tt) runs
 
-abbrev period_row_cells : PeriodRow → Row
-period_row_cells = period_part.cells
-
-pub puts_period : (more : More) (old new : State) (row : PeriodRow) (count : ℕ)
-    → (HasCleanDisk new → ExecutesInside 0 insert_period (period_row_cells row) old new (Ok count))
-    → PutsThere (schema_with more) period_part old new (row ∷ [])
-puts_period more old new row count runs =
-    puts_there more period_table 5 insert_period period_terms 8 refl (insert_period_is more) (insert_period_plain more) period_row_cells
-    (period_part.fact) period_fact old new (row ∷ []) (period_row_cells row) count refl (rw (cast_int, cast_int, cast_int), tt) ((λ id. refl), tt) runs
-
-pub puts_holiday : (more : More) (old new : State) (day : ℕ) (count : ℕ)
-    → (HasCleanDisk new → ExecutesInside 0 insert_holiday (holiday_cells day) old new (Ok count))
-    → PutsThere (schema_with more) holiday_part old new (day ∷ [])
-puts_holiday more old new day count runs =
-    puts_there more holiday_table 6 insert_holiday holiday_terms 2 refl (insert_holiday_is more) (insert_holiday_plain more) holiday_cells
-    HolidayIs holiday_fact old new (day ∷ []) (holiday_cells day) count refl (rw cast_int, tt) ((λ id. refl), tt) runs
-
-abbrev job_row_cells : JobRow → Row
-job_row_cells = job_part.cells
-
-pub puts_job : (more : More) (old new : State) (row : JobRow) (count : ℕ)
-    → (HasCleanDisk new → ExecutesInside 0 insert_job (job_row_cells row) old new (Ok count))
-    → PutsThere (schema_with more) job_part old new (row ∷ [])
-puts_job more old new row count runs =
-    puts_there more job_table 7 insert_job job_terms 4 refl (insert_job_is more) (insert_job_plain more) job_row_cells (job_part.fact) job_fact
-    old new (row ∷ []) (job_row_cells row) count refl (rw cast_int, tt) ((λ id. refl), tt) runs
-
-head_whole : (more : More) → IsWhole insert_head 5 (understood (schema_with more) insert_head)
-unfolding understood everything
-head_whole more = (omega arith, refl, refl)
-
 event_whole : (more : More) → IsWhole insert_event 7 (understood (schema_with more) insert_event)
 unfolding understood everything
 event_whole more = (omega arith, refl, refl)
-
-period_whole : (more : More) → IsWhole insert_period 7 (understood (schema_with more) insert_period)
-unfolding understood everything
-period_whole more = (omega arith, refl, refl)
-
-holiday_whole : (more : More) → IsWhole insert_holiday 1 (understood (schema_with more) insert_holiday)
-unfolding understood everything
-holiday_whole more = (omega arith, refl, refl)
-
-job_whole : (more : More) → IsWhole insert_job 3 (understood (schema_with more) insert_job)
-unfolding understood everything
-job_whole more = (omega arith, refl, refl)
-
-pub takes_head : (more : More) (old new : State) (h : Head) (count : ℕ) → old.now.schema ≡ schema_with more
-    → ExecutesInside 0 insert_head (unit_cells h) old new (Ok count) → TakesAll old.step_limit (singly head_part (h ∷ [])) old.now new.now
-takes_head more old new h count has ran =
-    takes_all more head_table 1 insert_head head_terms 6 refl (insert_head_is more) (insert_head_plain more) unit_cells head_part.fact head_fact
-    old new (h ∷ []) (unit_cells h) refl refl count has ran
-
-pub fails_head : (more : More) (old new : State) (h : Head) (e : Error) → old.now.schema ≡ schema_with more
-    → ExecutesInside 0 insert_head (unit_cells h) old new (Err e) → FailsToPut old new (singly head_part (h ∷ [])) old.now e
-fails_head more old new h e has ran =
-    fails_to_put more head_table 1 insert_head head_terms 6 refl (insert_head_is more) (insert_head_plain more) unit_cells head_part.fact head_fact
-    old new (h ∷ []) (unit_cells h) refl refl e (head_whole more) has ran
 
 pub takes_event : (more : More) (old new : State) (event : EventValue) (count : ℕ) → old.now.schema ≡ schema_with more
     → ExecutesInside 0 insert_event (event_cells event) old new (Ok count) → TakesAll old.step_limit (singly event_part (event ∷ [])) old.now new.now
@@ -202,42 +140,6 @@ pub fails_event : (more : More) (old new : State) (event : EventValue) (e : Erro
 fails_event more old new event e has ran =
     fails_to_put more event_table 4 insert_event event_terms 8 refl (insert_event_is more) (insert_event_plain more) event_cells EventIs event_fact
     old new (event ∷ []) (event_cells event) refl refl e (event_whole more) has ran
-
-pub takes_period : (more : More) (old new : State) (row : PeriodRow) (count : ℕ) → old.now.schema ≡ schema_with more
-    → ExecutesInside 0 insert_period (period_row_cells row) old new (Ok count) → TakesAll old.step_limit (singly period_part (row ∷ [])) old.now new.now
-takes_period more old new row count has ran =
-    takes_all more period_table 5 insert_period period_terms 8 refl (insert_period_is more) (insert_period_plain more) period_row_cells (period_part.fact) period_fact
-    old new (row ∷ []) (period_row_cells row) refl refl count has ran
-
-pub fails_period : (more : More) (old new : State) (row : PeriodRow) (e : Error) → old.now.schema ≡ schema_with more
-    → ExecutesInside 0 insert_period (period_row_cells row) old new (Err e) → FailsToPut old new (singly period_part (row ∷ [])) old.now e
-fails_period more old new row e has ran =
-    fails_to_put more period_table 5 insert_period period_terms 8 refl (insert_period_is more) (insert_period_plain more) period_row_cells (period_part.fact) period_fact
-    old new (row ∷ []) (period_row_cells row) refl refl e (period_whole more) has ran
-
-pub takes_holiday : (more : More) (old new : State) (day : ℕ) (count : ℕ) → old.now.schema ≡ schema_with more
-    → ExecutesInside 0 insert_holiday (holiday_cells day) old new (Ok count) → TakesAll old.step_limit (singly holiday_part (day ∷ [])) old.now new.now
-takes_holiday more old new day count has ran =
-    takes_all more holiday_table 6 insert_holiday holiday_terms 2 refl (insert_holiday_is more) (insert_holiday_plain more) holiday_cells HolidayIs holiday_fact
-    old new (day ∷ []) (holiday_cells day) refl refl count has ran
-
-pub fails_holiday : (more : More) (old new : State) (day : ℕ) (e : Error) → old.now.schema ≡ schema_with more
-    → ExecutesInside 0 insert_holiday (holiday_cells day) old new (Err e) → FailsToPut old new (singly holiday_part (day ∷ [])) old.now e
-fails_holiday more old new day e has ran =
-    fails_to_put more holiday_table 6 insert_holiday holiday_terms 2 refl (insert_holiday_is more) (insert_holiday_plain more) holiday_cells HolidayIs holiday_fact
-    old new (day ∷ []) (holiday_cells day) refl refl e (holiday_whole more) has ran
-
-pub takes_job : (more : More) (old new : State) (row : JobRow) (count : ℕ) → old.now.schema ≡ schema_with more
-    → ExecutesInside 0 insert_job (job_row_cells row) old new (Ok count) → TakesAll old.step_limit (singly job_part (row ∷ [])) old.now new.now
-takes_job more old new row count has ran =
-    takes_all more job_table 7 insert_job job_terms 4 refl (insert_job_is more) (insert_job_plain more) job_row_cells (job_part.fact) job_fact
-    old new (row ∷ []) (job_row_cells row) refl refl count has ran
-
-pub fails_job : (more : More) (old new : State) (row : JobRow) (e : Error) → old.now.schema ≡ schema_with more
-    → ExecutesInside 0 insert_job (job_row_cells row) old new (Err e) → FailsToPut old new (singly job_part (row ∷ [])) old.now e
-fails_job more old new row e has ran =
-    fails_to_put more job_table 7 insert_job job_terms 4 refl (insert_job_is more) (insert_job_plain more) job_row_cells (job_part.fact) job_fact
-    old new (row ∷ []) (job_row_cells row) refl refl e (job_whole more) has ran
 
 -- ---- rows that are put one after another
 
@@ -300,7 +202,7 @@ module _ (under : Schema) {A : Type 0} (part : Part A) where
     said = tt;
   }
 
-  puts_then : (a b c : State) (xs ys : List A) → Puts under part a b xs → Puts under part b c ys
+  pub puts_then : (a b c : State) (xs ys : List A) → Puts under part a b xs → Puts under part b c ys
       → Puts under part a c (xs ++ ys)
   puts_then a b c xs ys p q = record {
     schema = q.schema;
@@ -457,27 +359,15 @@ module _ (layout : Layout) (HasOwn : Gained) (steady : IsSteady layout.more HasO
         let own = layout.steady b.now.trees c.now.trees versions_kept rest_kept in
         (λ i. of (heads i ++ own i)) ∙ p.names
 
-  pub all_there : doubt b.is_clean ≤ doubt c.is_clean → PutsOwnThere layout HasOwn a b added
-      → PutsRestThere all_under b c added periods jobs → PutsAllOf layout HasOwn a c added
-  all_there bc p q =
-      let parts : HasCleanDisk c → IsTrue a.is_open → a.now.schema ≡ all_under → IsSound all_under a.now.trees
-      → PutsOwn layout HasOwn a b added × PutsRest all_under b c added periods jobs =
-      λ clean o has sound.
-      let one = p.puts (omega arith) o has sound in
-      (one, q.puts clean (p.is_open (omega arith) o) one.schema one.sound) in
+  -- what follows heads, versions and details is put behind them
+  pub all_put : PutsOwn layout HasOwn a b added → PutsRestThere all_under b c added periods jobs → PutsRest all_under b c added periods jobs
+      → HasAddedOf layout HasOwn added a.now.trees c.now.trees
+  all_put own there rest =
+      let rows = all_added own rest in
       record {
-        was_open = λ clean o. p.was_open (omega arith) (q.was_open clean o);
-        is_open = λ clean o. q.is_open clean (p.is_open (omega arith) o);
-        inside = λ clean o. q.inside clean (p.inside (omega arith) o);
-        schema = λ clean o has sound. (parts clean o has sound).1.schema;
-        added = λ clean o has sound.
-            let all = parts clean o has sound in
-            let rows = all_added all.0 all.1 in
-            record {
-              rows = rows;
-              world = world_after layout HasOwn a.now.trees c.now.trees added periods jobs of_periods of_jobs
-                  (names_more all.0 all.1) q.said_events q.said_periods q.said_holidays q.said_jobs rows
-                  (gains_periods all.0 all.1) (gains_jobs all.0 all.1);
-              sound = all.1.sound;
-            };
+        rows = rows;
+        world = world_after layout HasOwn a.now.trees c.now.trees added periods jobs of_periods of_jobs
+            (names_more own rest) there.said_events there.said_periods there.said_holidays there.said_jobs rows
+            (gains_periods own rest) (gains_jobs own rest);
+        sound = rest.sound;
       }

@@ -1,4 +1,10 @@
+pub mod Frames
+pub mod HeadTabling
+pub mod HolidayTabling
+pub mod JobTabling
 pub mod MadeRows
 pub mod Parts
+pub mod PeriodTabling
 pub mod Refusals
+pub mod Tabling
 pub mod Writing

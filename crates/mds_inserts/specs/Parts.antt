@@ -76,12 +76,17 @@ statements_of part = map (λ items. (part.place, map part.cells items))
 abbrev pub singly : {A : Type 0} → Part A → List A → List (ℕ × List Row)
 singly part items = statements_of part (map (λ item. item ∷ []) items)
 
--- eight at a time while there are eight, and the rest one by one
-abbrev pub by_eights : {A : Type 0} → Part A → List A → List (ℕ × List Row)
-by_eights part items = statements_of part (first_chunks 8 (length items / 8) items) ++ singly part (drop (length items / 8 * 8) items)
+-- how many rows one statement puts, if enough are left
+abbrev pub together : ℕ
+together = 8
 
--- What is put after heads, versions and details, in this order. The rows of accumulations and of jobs are passed in.
+-- so many at a time while there are enough, and the rest one by one
+abbrev pub in_turn : {A : Type 0} → Part A → List A → List (ℕ × List Row)
+in_turn part items =
+    statements_of part (first_chunks together (length items / together) items) ++ singly part (drop (length items / together * together) items)
+
+-- What is put after heads, versions and details, in this order: events one by one. The rows of accumulations and of jobs are passed in.
 abbrev pub rest_in : Additions → List PeriodRow → List JobRow → List (ℕ × List Row)
 rest_in additions periods jobs =
     singly event_part additions.events.items
-    ++ (singly period_part periods ++ (singly holiday_part additions.holidays.items ++ singly job_part jobs))
+    ++ (in_turn period_part periods ++ (in_turn holiday_part additions.holidays.items ++ in_turn job_part jobs))

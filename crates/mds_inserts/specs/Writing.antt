@@ -86,24 +86,16 @@ IsMore more some facts = set.from_list {R = fact_cmp} more ≡ union (set.from_l
 abbrev pub other_tables : List Table
 other_tables = schema_table ∷ version_table ∷ detail_table ∷ event_table ∷ period_table ∷ holiday_table ∷ job_table ∷ []
 
-module _ (layout : Layout) (HasOwn : Gained) (old new : State) (additions : Additions) where
-  -- The same of heads, versions and details, in any layout. They are in its tables, which say them together with what they said
-  -- before.
-  pub record PutsOwn : Type 0 where
-    pub schema : new.now.schema ≡ schema_with layout.more
-    pub rows : HasOwn old.now.trees new.now.trees additions
-    pub names : IsMore (layout.heads new.now.trees ++ layout.own new.now.trees) (layout.heads old.now.trees ++ layout.own old.now.trees)
-        (map HeadIs (content.heads_of additions) ++ map content.version_fact (content.versions_of additions.days.items)
-        ++ map DetailIs (content.details_of additions.details.items))
-    pub others : Keeps old.now.trees new.now.trees other_tables
-    pub sound : IsSound (schema_with layout.more) new.now.trees
-
-  pub record PutsOwnThere : Type 0 where
-    pub was_open : HasCleanDisk new → IsTrue new.is_open → IsTrue old.is_open
-    pub is_open : HasCleanDisk new → IsTrue old.is_open → IsTrue new.is_open
-    pub inside : HasCleanDisk new → IsTrue old.in_transaction → IsTrue new.in_transaction
-    pub puts : HasCleanDisk new → IsTrue old.is_open → old.now.schema ≡ schema_with layout.more
-        → IsSound (schema_with layout.more) old.now.trees → PutsOwn
+-- The same of heads, versions and details, in any layout. They are in its tables, which say them together with what they said
+-- before.
+pub record PutsOwn (layout : Layout) (HasOwn : Gained) (old new : State) (additions : Additions) : Type 0 where
+  pub schema : new.now.schema ≡ schema_with layout.more
+  pub rows : HasOwn old.now.trees new.now.trees additions
+  pub names : IsMore (layout.heads new.now.trees ++ layout.own new.now.trees) (layout.heads old.now.trees ++ layout.own old.now.trees)
+      (map HeadIs (content.heads_of additions) ++ map content.version_fact (content.versions_of additions.days.items)
+      ++ map DetailIs (content.details_of additions.details.items))
+  pub others : Keeps old.now.trees new.now.trees other_tables
+  pub sound : IsSound (schema_with layout.more) new.now.trees
 
 -- What is said of the rows of heads, versions and details reads only mds_head, mds_version and the tables that follow those that
 -- every schema has.
@@ -137,16 +129,6 @@ module _ (layout : Layout) (HasOwn : Gained) where
     pub rows : AddsOf HasOwn old new additions
     pub world : world_with layout new ≡ union (world_with layout old) (content.content additions)
     pub sound : IsSound (schema_with layout.more) new
-
-  -- the parts, one after another, as the transaction sees them, if the connection is open and the tables are these
-  pub record PutsAllOf (old new : State) (additions : Additions) : Type 0 where
-    pub was_open : HasCleanDisk new → IsTrue new.is_open → IsTrue old.is_open
-    pub is_open : HasCleanDisk new → IsTrue old.is_open → IsTrue new.is_open
-    pub inside : HasCleanDisk new → IsTrue old.in_transaction → IsTrue new.in_transaction
-    pub schema : HasCleanDisk new → IsTrue old.is_open → old.now.schema ≡ schema_with layout.more
-        → IsSound (schema_with layout.more) old.now.trees → new.now.schema ≡ schema_with layout.more
-    pub added : HasCleanDisk new → IsTrue old.is_open → old.now.schema ≡ schema_with layout.more
-        → IsSound (schema_with layout.more) old.now.trees → HasAddedOf additions old.now.trees new.now.trees
 
   -- The additions are committed together with what the transaction saw at its beginning.
   pub record WritesOf (old new : State) (additions : Additions) : Type 0 where

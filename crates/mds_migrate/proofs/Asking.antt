@@ -8,10 +8,9 @@ use Rattle.sqlite_trees.specs.Tree.{Trees}
 use Rattle.mds_tables.specs.Layouts.{rows_layout}
 use Rattle.mds_tables.specs.Stores.{HoldsTablesOf, IsStore, versions_said}
 use Rattle.mds_tables.specs.Tables.{schema_1}
+use Rattle.mds_pack_rows.specs.Current.{current_layout, current_schema}
 use Rattle.mds_pack_rows.specs.DailyLayout.{daily_layout}
 use Rattle.mds_pack_rows.specs.DailyTables.{schema_3}
-use Rattle.mds_pack_rows.specs.FormLayout.{forms_layout}
-use Rattle.mds_pack_rows.specs.FormTables.{schema_4}
 use Rattle.mds_pack_rows.specs.PackTables.{schema_2}
 use Rattle.mds_pack_rows.specs.PacksLayout.{packs_layout}
 use Rattle.mds_pack_rows.proofs.TwoSchemas.{not_of}
@@ -98,7 +97,7 @@ module _ (old mid : State) (kept : HasCleanDisk mid → KeepsCommit old mid) (on
         bare = it.bare;
       }
 
-  pub is_formed : HoldsTablesOf forms_layout old → (HasCleanDisk mid → AreFormed old.committed.trees)
+  pub is_formed : HoldsTablesOf current_layout old → (HasCleanDisk mid → AreFormed old.committed.trees)
       → HasCleanDisk mid → IsTrue mid.is_open → IsFormedStore old.committed
   is_formed held are clean is_open =
       let it = are clean in
@@ -124,7 +123,7 @@ none_of_1 db has other = (
   (λ store. other store.version),
   (λ is. not_of packs_layout schema_1 db has (λ same. omega (arith, same)) is.store),
   (λ is. not_of daily_layout schema_1 db has (λ same. omega (arith, same)) is.store),
-  (λ is. not_of forms_layout schema_1 db has (λ same. omega (arith, same)) is.store),
+  (λ is. not_of current_layout schema_1 db has (λ same. omega (arith, same)) is.store),
 )
 
 pub none_of_2 : (db : Database) → db.schema ≡ schema_2 → (ArePacked db.trees → ⊥) → IsNone db
@@ -132,7 +131,7 @@ none_of_2 db has other = (
   (λ store. not_of rows_layout schema_2 db has (λ same. omega (arith, same)) store),
   (λ is. other (record { version = is.store.version; unversioned = is.unversioned })),
   (λ is. not_of daily_layout schema_2 db has (λ same. omega (arith, same)) is.store),
-  (λ is. not_of forms_layout schema_2 db has (λ same. omega (arith, same)) is.store),
+  (λ is. not_of current_layout schema_2 db has (λ same. omega (arith, same)) is.store),
 )
 
 pub none_of_3 : (db : Database) → db.schema ≡ schema_3 → (AreDaily db.trees → ⊥) → IsNone db
@@ -140,13 +139,13 @@ none_of_3 db has other = (
   (λ store. not_of rows_layout schema_3 db has (λ same. omega (arith, same)) store),
   (λ is. not_of packs_layout schema_3 db has (λ same. omega (arith, same)) is.store),
   (λ is. other (record { version = is.store.version; bare = is.bare })),
-  (λ is. not_of forms_layout schema_3 db has (λ same. omega (arith, same)) is.store),
+  (λ is. not_of current_layout schema_3 db has (λ same. omega (arith, same)) is.store),
 )
 
-pub none_of_4 : (db : Database) → db.schema ≡ schema_4 → (AreFormed db.trees → ⊥) → IsNone db
+pub none_of_4 : (db : Database) → db.schema ≡ current_schema → (AreFormed db.trees → ⊥) → IsNone db
 none_of_4 db has other = (
-  (λ store. not_of rows_layout schema_4 db has (λ same. omega (arith, same)) store),
-  (λ is. not_of packs_layout schema_4 db has (λ same. omega (arith, same)) is.store),
-  (λ is. not_of daily_layout schema_4 db has (λ same. omega (arith, same)) is.store),
+  (λ store. not_of rows_layout current_schema db has (λ same. omega (arith, same)) store),
+  (λ is. not_of packs_layout current_schema db has (λ same. omega (arith, same)) is.store),
+  (λ is. not_of daily_layout current_schema db has (λ same. omega (arith, same)) is.store),
   (λ is. other (record { version = is.store.version; bare = is.bare })),
 )

@@ -1,16 +1,14 @@
 -- Days that are given the greatest details of their streams.
-use Rattle.std.proofs.Common.{◌≡◌, ◌≤◌, ◌<◌, ◌+◌, ◌↔◌, inl, inr, suc, ℕ, List, [], ◌∷◌, ◌++◌, All, Option, Some, None, true, length, map, slice_index_or, take, refl, sym, ap, subst, ◌∙◌, arith}
+use Rattle.std.proofs.Common.{◌≡◌, ◌≤◌, ◌<◌, ◌+◌, ◌↔◌, inl, inr, suc, ℕ, List, [], ◌∷◌, ◌++◌, All, Ok, Option, Some, None, true, length, map, slice_index_or, take, refl, sym, ap, subst, ◌∙◌, arith}
 use Rattle.std.specs.Cmp.{IsTotalOrder, nat_cmp_total, on_total, then_total}
 use Rattle.std.specs.FinSet.{nat_cmp-IsAntisymmetric}
 use Rattle.std.specs.Ordering.{is_le, nat_cmp, ordering_then}
 use Rattle.std.specs.declared.cmp.Ordering.TheVariants.{Less, Equal, Greater}
 use Rattle.std.proofs.lemmas.List.{take_more}
-use Rattle.sqlite.specs.State.{HasCleanDisk, IsUnchanged, KeepsCommit, State}
+use Rattle.sqlite.specs.State.{HasCleanDisk, IsUnchanged, State}
 use Rattle.sqlite.specs.declared.types.Value.TheVariants.{Null}
-use Rattle.sqlite.proofs.InsideLemmas.{keeps_then}
 use Rattle.sqlite_catalog.specs.Listing.{IsSound}
 use Rattle.sqlite_trees.specs.Tree.{Trees}
-use Rattle.sqlite_trees.specs.View.{doubt}
 use Rattle.sqlite_value.specs.Order.{Row, column}
 use Rattle.mds_names.specs.declared.stream.Stream.{Stream}
 use Rattle.mds_terms.specs.Details.{details_cmp}
@@ -28,22 +26,21 @@ use Rattle.mds_keeper.specs.declared.additions.DetailDays.{DetailDays}
 use Rattle.mds_tables.specs.Cells.{stream_cells}
 use Rattle.mds_tables.specs.RowFacts.{head_fact, natural_at, stream_in}
 use Rattle.mds_tables.specs.Stores.{Selects}
-use Rattle.mds_tables.specs.Tables.{More, detail_tree, head_columns, head_tree, schema_with}
+use Rattle.mds_tables.specs.Tables.{detail_tree, head_columns, head_tree}
+use Rattle.mds_inserts.specs.Frames.{Frames, IsAt}
 use Rattle.mds_inserts.specs.Parts.{detail_part}
-use Rattle.mds_inserts.specs.Writing.{PutsThere}
-use Rattle.mds_inserts.proofs.PutLemmas.{none_there, there_then}
+use Rattle.mds_inserts.specs.Writing.{Puts}
+use Rattle.mds_inserts.proofs.FrameLemmas.{frames_none}
+use Rattle.mds_inserts.proofs.PutLemmas.{none_there, puts_then}
 use Rattle.mds_selects.proofs.Listed.{on_stream, stream_on}
 use Rattle.mds_selects.proofs.MemberLemmas.{place_of}
 use Rattle.mds_selects.proofs.TypedRows.{HasKeyCells}
-use Rattle.mds_pack_rows.specs.DailyPutting.{IsThereDaily}
 use Rattle.mds_pack_rows.specs.DailyTables.{daydetails, schema_3}
-use Rattle.mds_pack_rows.specs.PackTables.{packs_then}
-use Rattle.mds_pack_rows.specs.Putting.{FindsThere, GoesOn}
 use Rattle.mds_day_details.specs.Shown.{AreLatestFirst, IsDetailRow, shown_details}
-use Rattle.mds_migrate.specs.Dating.{AreGreatestOf, AreOfHeads, Dates, DatesDays, IsKnown, IsKnownOf, IsLatest, IsOfHead, IsOfKnownDay, Knows, SaysDetails, SaysFirst, ShowsDetailsOf, Stays, all_on, known_on, shown_columns}
+use Rattle.mds_migrate.specs.Dating.{AreGreatestOf, AreOfHeads, Dates, DatesDays, IsKnown, IsKnownOf, IsLatest, IsOf, IsOfHead, IsOfKnownDay, Knows, SaysDetails, SaysFirst, ShowsDetailsOf, all_on, known_on, shown_columns}
 use Rattle.mds_migrate.specs.OldDetails.{IsGreatestOf, StreamDetail, pair_cmp, stream_detail}
 use Rattle.mds_migrate.specs.declared.dating.Latest.{Latest}
-use Rattle.mds_migrate.proofs.BehindQuery.{puts_since as since}
+use Rattle.mds_migrate.proofs.BehindQuery.{puts_since}
 use Rattle.mds_migrate.proofs.DatingOrder.{detail_keyed}
 
 -- ---- the greatest details of a stream
@@ -123,17 +120,11 @@ module _ (trees : Trees) (s : Stream) (keyed : (row : Row) → Member row (trees
       )
 
 -- all details of a stream were asked for, and the first of them are the greatest
-pub finds_greatest : (s : Stream) (old new : State) (rows : List Row) (details : Option DetailDays) → All (λ row. IsDetailRow row) rows
-    → SaysFirst rows s details → FindsThere old new (λ trees. ShowsDetailsOf s trees rows)
-    → FindsThere old new (λ trees. IsLatest trees (record { stream = s; details = details }))
-finds_greatest s old new rows details all says finds = record {
-  same = finds.same;
-  shows = λ rest has whole.
-      let trees = old.now.trees in
-      let sound : IsSound (schema_with (packs_then rest)) trees = subst (λ schema. IsSound schema trees) has whole in
-      let it = finds.shows rest has whole in
-      first_greatest trees s (detail_keyed rest trees sound) rows it.0 rows refl (it.1 all) details says;
-}
+pub finds_greatest : (s : Stream) (trees : Trees) → IsSound schema_3 trees → (rows : List Row) (details : Option DetailDays)
+    → All (λ row. IsDetailRow row) rows → SaysFirst rows s details → ShowsDetailsOf s trees rows
+    → IsLatest trees (record { stream = s; details = details })
+finds_greatest s trees sound rows details all says it =
+    first_greatest trees s (detail_keyed daydetails trees sound) rows it.0 rows refl (it.1 all) details says
 
 -- the first of some rows says them
 pub some_first : (rows : List Row) (first : Row) (s : Stream) (d : DetailDays) → 1 ≤ length rows → first ≡ slice_index_or rows 0 first
@@ -141,40 +132,23 @@ pub some_first : (rows : List Row) (first : Row) (s : Stream) (d : DetailDays) �
 some_first [] first s d low is says = absurd (omega (arith, low))
 some_first (row ∷ rows) first s d low is says = (d, refl, subst (λ r. SaysDetails r s d) is says)
 
--- ---- a query changes nothing
-
-pub stays_found : (a b : State) → GoesOn a b → (HasCleanDisk b → (rest : More) → a.now.schema ≡ schema_with (packs_then rest) → IsUnchanged a b)
-    → Stays a b
-stays_found a b on same = record {
-  goes_on = on;
-  now = λ clean o has. (same clean daydetails has).0.now_is;
-  committed = λ clean o has. (same clean daydetails has).0.committed_is;
-}
-
 -- the greatest details of a stream were found
-pub knows_found : (a b : State) (before : Option Latest) (latest : Latest) (s : Stream) → latest.stream ≡ s → GoesOn a b
-    → (HasCleanDisk b → FindsThere a b (λ trees. IsLatest trees latest)) → Knows a b before (Some latest) s
-knows_found a b before latest s of on finds = record {
-  stays = stays_found a b on (λ clean. (finds clean).same);
-  known = λ there _.
-      let whole = subst (λ schema. IsSound schema a.now.trees) (sym there.schema) there.sound in
-      let is = (finds there.clean).shows daydetails there.schema whole in
-      (is, subst (λ of. AreGreatestOf a.now.trees of latest.details) of is);
+pub knows_found : (a b : State) (before : Option Latest) (latest : Latest) (s : Stream) → latest.stream ≡ s
+    → IsUnchanged a b × IsLatest a.now.trees latest → Knows a b before (Some latest) s
+knows_found a b before latest s of found = record {
+  now = found.0.0.now_is;
+  committed = found.0.0.committed_is;
+  known = λ _. (found.1, subst (λ of. AreGreatestOf a.now.trees of latest.details) of found.1);
 }
 
-module _ (a b c : State) (later : doubt b.is_clean ≤ doubt c.is_clean) where
-  there_before : IsThereDaily a c → IsThereDaily a b
-  there_before there = record {
-    clean = omega (arith, there.clean, later);
-    is_open = there.is_open;
-    schema = there.schema;
-    sound = there.sound;
-  }
-
-  -- after a query rows are put
-  module _ (stays : Stays a b) where
-    pub puts_since : (items : List Detail) → PutsThere schema_3 detail_part b c items → PutsThere schema_3 detail_part a c items
-    puts_since = since schema_3 detail_part a b c later stays.goes_on (λ clean o has. (stays.now clean o has, stays.committed clean o has))
+-- what is known of this stream is known still
+pub knows_still : (s : State) (known : Option Latest) (stream : Stream) → IsOf known stream → Knows s s known known stream
+knows_still s None stream is = absurd is
+knows_still s (Some latest) stream is = record {
+  now = refl;
+  committed = refl;
+  known = λ right. (right, subst (λ stream. AreGreatestOf s.now.trees stream latest.details) is right);
+}
 
 -- ---- the day of a head
 
@@ -227,14 +201,13 @@ of_known_day trees shown s day of on None is = absurd is
 of_known_day trees shown s day of on (Some latest) is = of_one_day trees shown s day of on latest.details is
 
 -- The greatest details of the stream of a head were known, and then put on its day.
-pub dates_day : (a b c : State) → doubt b.is_clean ≤ doubt c.is_clean → (shown : Row) (head : Head)
-    → head_fact (Null ∷ shown) ≡ HeadIs head → (before after : Option Latest) → Knows a b before after head.stream
-    → PutsThere schema_3 detail_part b c (known_on after head.day) → DatesDays a c before after (shown ∷ [])
-dates_day a b c later shown head is before after knows puts = record {
+pub dates_day : (a b c : State) (shown : Row) (head : Head) → head_fact (Null ∷ shown) ≡ HeadIs head → (before after : Option Latest)
+    → Knows a b before after head.stream → Puts schema_3 detail_part b c (known_on after head.day) → DatesDays a c before after (shown ∷ [])
+dates_day a b c shown head is before after knows puts = record {
   details = known_on after head.day;
-  puts = puts_since a b c later knows.stays (known_on after head.day) puts;
-  are = λ there was.
-      let known = knows.known (there_before a b c later there) was in
+  puts = puts_since schema_3 detail_part a b c knows.now knows.committed (known_on after head.day) puts;
+  are = λ was.
+      let known = knows.known was in
       let of : stream_in (Null ∷ shown) ≡ head.stream = ap (stream_of head.stream) is in
       let on : natural_at (Null ∷ shown) 3 ≡ head.day = ap (day_of head.day) is in (
         of_known_day a.now.trees shown head.stream head.day (sym of) (sym on) after known.1,
@@ -242,19 +215,21 @@ dates_day a b c later shown head is before after knows puts = record {
       );
 }
 
--- the commit is kept behind a query
-pub kept_since : (a b c : State) → doubt b.is_clean ≤ doubt c.is_clean → (IsThereDaily a b → KeepsCommit a b) → (HasCleanDisk c → KeepsCommit b c)
-    → IsThereDaily a c → KeepsCommit a c
-kept_since a b c later first next there = keeps_then a b c (first (there_before a b c later there)) (next there.clean)
+-- where nothing is known of a stream, nothing is put
+pub none_known : {E : Type 0} (s : State) (items : List Detail) → items ≡ []
+    → Frames {X = Unit {0}} {E = E} schema_3 (λ _. Puts schema_3 detail_part s s items) s s (Ok tt)
+none_known s items none = frames_none s (λ clean at. subst (Puts schema_3 detail_part s s) (sym none)
+    ((none_there schema_3 detail_part s).puts clean at.is_open at.schema at.sound))
 
 -- ---- one day after another
 
 -- of no heads there are none
-pub dates_since : (a b : State) → Stays a b → DatesDays a b None None []
-dates_since a b stays = record {
+pub dates_since : (a b : State) → HasCleanDisk b → IsAt schema_3 b → IsUnchanged a b → DatesDays a b None None []
+dates_since a b clean there same = record {
   details = [];
-  puts = puts_since a b b (omega arith) stays [] (none_there schema_3 detail_part b);
-  are = λ there _. ((λ detail. ((λ m. absurd m), (λ p. absurd p.1))), tt);
+  puts = puts_since schema_3 detail_part a b b same.0.now_is same.0.committed_is []
+      ((none_there schema_3 detail_part b).puts clean there.is_open there.schema there.sound);
+  are = λ _. ((λ detail. ((λ m. absurd m), (λ p. absurd p.1))), tt);
 }
 
 -- what is said of mds_detail alone
@@ -295,23 +270,15 @@ of_both trees xs ys one two p q d = (
   ]),
 )
 
-module _ (a b c : State) (later : doubt b.is_clean ≤ doubt c.is_clean) (x y z : Option Latest) where
-  there_after : (details : List Detail) → PutsThere schema_3 detail_part a b details → IsThereDaily a c → IsThereDaily b c
-  there_after details puts there =
-      let early : HasCleanDisk b = omega (arith, there.clean, later) in
-      let it = puts.puts early there.is_open there.schema there.sound in
-      record { clean = there.clean; is_open = puts.is_open early there.is_open; schema = it.schema; sound = it.sound }
-
+module _ (a b c : State) (x y z : Option Latest) where
   dates_both : (xs ys : List Row) → DatesDays a b x y xs → DatesDays b c y z ys → DatesDays a c x z (xs ++ ys)
   dates_both xs ys p q = record {
     details = p.details ++ q.details;
-    puts = there_then schema_3 detail_part a b c p.details q.details later p.puts q.puts;
-    are = λ there was.
-        let before = there_before a b c later there in
-        let first = p.puts.puts before.clean before.is_open before.schema before.sound in
-        let same : b.now.trees detail_tree ≡ a.now.trees detail_tree = first.others.1.1.1.0 (λ e. omega arith) in
-        let one = p.are before was in
-        let two = q.are (there_after p.details p.puts there) (known_as a.now.trees b.now.trees same y one.1) in
+    puts = puts_then schema_3 detail_part a b c p.details q.details p.puts q.puts;
+    are = λ was.
+        let same : b.now.trees detail_tree ≡ a.now.trees detail_tree = p.puts.others.1.1.1.0 (λ e. omega arith) in
+        let one = p.are was in
+        let two = q.are (known_as a.now.trees b.now.trees same y one.1) in
         let back = of_head_as b.now.trees a.now.trees (sym same) in
         let on = of_head_as a.now.trees b.now.trees same in
         let more : AreOfHeads a.now.trees ys q.details =
@@ -324,11 +291,6 @@ module _ (a b c : State) (later : doubt b.is_clean ≤ doubt c.is_clean) (x y z 
   dates_next heads k head low is p q =
       let front : take (k + 1) heads ≡ take k heads ++ head ∷ [] = take_more heads k head low ∙ ap (λ x. take k heads ++ x ∷ []) (sym is) in
       subst (DatesDays a c x z) (sym front) (dates_both (take k heads) (head ∷ []) p q)
-
-  pub kept_then : (xs : List Row) → DatesDays a b x y xs → (IsThereDaily a b → KeepsCommit a b) → (IsThereDaily b c → KeepsCommit b c)
-      → IsThereDaily a c → KeepsCommit a c
-  kept_then xs p keeps more there =
-      keeps_then a b c (keeps (there_before a b c later there)) (more (there_after p.details p.puts there))
 
 -- ---- all heads
 
@@ -351,14 +313,10 @@ of_all trees heads sel details are detail = (
       (are detail).1 (shown, (sel shown).1 (it.head, it.there, refl, refl), record { stream = it.stream; day = it.day; greatest = it.greatest })),
 )
 
-pub dates_all : (a b c : State) → doubt b.is_clean ≤ doubt c.is_clean → (heads : List Row)
-    → (HasCleanDisk b → FindsThere a b (λ trees. Selects head_tree [] head_columns trees heads)) → (z : Option Latest)
-    → DatesDays a c None z heads → IsThereDaily a c → Dates a c
-dates_all a b c later heads finds z p there =
-    let whole = subst (λ schema. IsSound schema a.now.trees) (sym there.schema) there.sound in
-    let sel = (finds (omega (arith, there.clean, later))).shows daydetails there.schema whole in
-    record {
-      details = p.details;
-      puts = p.puts.puts there.clean there.is_open there.schema there.sound;
-      are = of_all a.now.trees heads sel p.details (p.are there tt).0;
-    }
+pub dates_all : (a c : State) (heads : List Row) → Selects head_tree [] head_columns a.now.trees heads → (z : Option Latest)
+    → DatesDays a c None z heads → Dates a c
+dates_all a c heads sel z p = record {
+  details = p.details;
+  puts = p.puts;
+  are = of_all a.now.trees heads sel p.details (p.are tt).0;
+}

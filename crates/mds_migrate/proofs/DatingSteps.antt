@@ -1,11 +1,9 @@
 -- The parts of the step to schema 3, one after another.
-use Rattle.std.proofs.Common.{◌≡◌, ◌≤◌, ◌↔◌, inl, inr, ℤ, [], ◌∷◌, ◌++◌, List, map, pos, IsTrue, refl, sym, ap, subst, ◌∙◌, arith}
+use Rattle.std.proofs.Common.{◌≡◌, ◌↔◌, inl, inr, [], ◌∷◌, ◌++◌, List, map, pos, refl, sym, ap, subst, ◌∙◌, arith}
 use Rattle.std.specs.List.{flat_map}
-use Rattle.sqlite.specs.State.{HasCleanDisk, KeepsCommit, State}
-use Rattle.sqlite.proofs.InsideLemmas.{keeps_then}
+use Rattle.sqlite.specs.State.{State}
 use Rattle.sqlite_catalog.specs.Listing.{IsSound}
 use Rattle.sqlite_trees.specs.Tree.{Trees}
-use Rattle.sqlite_trees.specs.View.{doubt}
 use Rattle.sqlite_value.specs.Order.{Row}
 use Rattle.mds_world.specs.Facts.{head_at}
 use Rattle.mds_world.specs.Facts.Fact.{DetailIs, EventIs, HeadIs, HolidayIs, JobIs, PeriodIs, VersionIs}
@@ -15,25 +13,22 @@ use Rattle.mds_world.specs.declared.facts.Detail.{Detail}
 use Rattle.mds_world.specs.declared.facts.Head.{Head}
 use Rattle.mds_world.proofs.Lists.{in_map, map_in}
 use Rattle.mds_world.proofs.Members.{in_list, in_union, list_in, union_right}
-use Rattle.mds_tables.specs.Making.{MakesThere}
-use Rattle.mds_tables.specs.RowFacts.{detail_fact, event_fact, head_fact, holiday_fact, int_at, job_fact, natural_at, period_fact, stream_in, text_at, unit_named}
-use Rattle.mds_tables.specs.Stores.{versions_said}
+use Rattle.mds_tables.specs.RowFacts.{detail_fact, event_fact, head_fact, holiday_fact, job_fact, natural_at, period_fact, stream_in, text_at, unit_named}
 use Rattle.mds_tables.specs.Tables.{daydetail_tree, detail_tree, head_table, head_tree, schema_tree, version_table}
 use Rattle.mds_inserts.specs.Parts.{detail_part}
 use Rattle.mds_inserts.specs.Writing.{IsMore, Keeps, KeepsOthers}
 use Rattle.mds_inserts.proofs.RowLemmas.{detail_bare, more, of, says_details}
 use Rattle.mds_selects.proofs.Named.{Names, of_event, of_head_row, of_holiday, of_job, of_period, of_version}
-use Rattle.mds_pack_rows.specs.DailyLayout.{daily_layout, daydetails_behind, versions_packed, world_3}
-use Rattle.mds_pack_rows.specs.DailyPutting.{IsThereDaily, MakesDaydetail}
+use Rattle.mds_pack_rows.specs.DailyLayout.{daily_layout, versions_packed, world_3}
 use Rattle.mds_pack_rows.specs.DailyTables.{daydetail_table, schema_3, tables_3}
 use Rattle.mds_pack_rows.specs.PackFacts.{pack_facts}
-use Rattle.mds_pack_rows.specs.PackTables.{pack_table, pack_tree, schema_2, tables_2}
+use Rattle.mds_pack_rows.specs.Making.{MakesTable}
+use Rattle.mds_pack_rows.specs.PackTables.{pack_table, pack_tree, tables_2}
 use Rattle.mds_pack_rows.specs.PacksLayout.{packs_layout}
-use Rattle.mds_pack_rows.specs.Putting.{GoesOn, IsThere}
 use Rattle.mds_pack_rows.proofs.PutLemmas.{others_of}
 use Rattle.mds_day_details.proofs.DetailCells.{named}
 use Rattle.mds_migrate.specs.Dating.{Dates, IsOfKnownDay}
-use Rattle.mds_migrate.specs.Migrated.{HasDated, IsFor, TakesOn, dating, steady_tables}
+use Rattle.mds_migrate.specs.Migrated.{HasDated, IsFor, dating, steady_tables}
 use Rattle.mds_migrate.specs.Migrating.{Clears, Raises}
 use Rattle.mds_migrate.specs.OldDetails.{Becomes, Comes}
 use Rattle.mds_migrate.proofs.DatingLemmas.{greatest_as}
@@ -132,137 +127,49 @@ known_as old new heads same x is = record {
   greatest = greatest_as old new same x.stream (record { stream = x.stream; moment = x.moment; details = x.details }) is.greatest;
 }
 
--- ---- the chain
+-- ---- the parts, one after another
 
-there_3 : (a b : State) → HasCleanDisk b → IsTrue a.is_open → a.now.schema ≡ schema_3 → IsSound a.now.schema a.now.trees → IsThere a b
-there_3 a b clean o has sound =
-    record { clean = clean; is_open = o; rest = daydetails_behind; schema = has; sound = subst (λ schema. IsSound schema a.now.trees) has sound }
+module _ (a b c d e : State) (first : IsFor dating a.now) (made : MakesTable 9 a b) (dated : Dates b c) (cleared : Clears detail_tree c d)
+    (raised : Raises (pos 3) d e) where
+  clears_others : KeepsOthers detail_tree c.now.trees d.now.trees tables_3
+  clears_others = others_of detail_tree schema_3 c d dated.puts.schema cleared.others
 
-module _ (a b c : State) (bc : doubt b.is_clean ≤ doubt c.is_clean)
-    (makes : HasCleanDisk b → IsTrue a.is_open → a.now.schema ≡ schema_2 → MakesDaydetail a b) where
-  at_b : HasCleanDisk c → IsTrue a.is_open → IsFor dating a.now → IsThereDaily b c
-  at_b clean o first =
-      let made = makes (omega (arith, clean, bc)) o first.store.store.schema in
-      record { clean = clean; is_open = made.is_open; schema = made.schema; sound = made.sound }
+  behind_d : d.now.schema ≡ schema_3
+  behind_d = cleared.schema ∙ dated.puts.schema
 
-  pub keeps_two : (HasCleanDisk b → KeepsCommit a b) → (IsThereDaily b c → KeepsCommit b c) → HasCleanDisk c → IsTrue a.is_open → IsFor dating a.now
-      → KeepsCommit a c
-  keeps_two one two clean o first = keeps_then a b c (one (omega (arith, clean, bc))) (two (at_b clean o first))
+  raises_others : KeepsOthers schema_tree d.now.trees e.now.trees tables_3
+  raises_others = others_of schema_tree schema_3 d e behind_d raised.others
 
-  module _ (d : State) (cd : doubt c.is_clean ≤ doubt d.is_clean) (dates : IsThereDaily b c → Dates b c) (on : GoesOn b c) where
-    dated : HasCleanDisk c → IsTrue a.is_open → IsFor dating a.now → Dates b c
-    dated clean o first = dates (at_b clean o first)
+  daydetails_gained : IsMore (map detail_fact (c.now.trees daydetail_tree)) (map detail_fact (b.now.trees daydetail_tree)) (map DetailIs dated.details)
+  daydetails_gained = more detail_part detail_bare dated.details (says_details dated.details) b.now.trees c.now.trees dated.puts.rows
 
-    at_c : HasCleanDisk d → IsTrue a.is_open → IsFor dating a.now → IsThere c d
-    at_c clean o first =
-        let early : HasCleanDisk c = omega (arith, clean, cd) in
-        let it = dated early o first in
-        record {
-          clean = clean;
-          is_open = on.is_open early (at_b early o first).is_open;
-          rest = daydetails_behind;
-          schema = it.puts.schema;
-          sound = it.puts.sound;
-        }
+  same_dated : e.now.trees daydetail_tree ≡ c.now.trees daydetail_tree
+  same_dated = raises_others.1.1.1.1.1.1.1.1.1.0 (λ e. omega arith) ∙ clears_others.1.1.1.1.1.1.1.1.1.0 (λ e. omega arith)
 
-    pub keeps_three : (HasCleanDisk b → KeepsCommit a b) → (IsThereDaily b c → KeepsCommit b c) → (IsThere c d → KeepsCommit c d) → HasCleanDisk d
-        → IsTrue a.is_open → IsFor dating a.now → KeepsCommit a d
-    keeps_three one two three clean o first =
-        keeps_then a c d (keeps_two one two (omega (arith, clean, cd)) o first) (three (at_c clean o first))
+  same : Keeps a.now.trees e.now.trees (head_table ∷ version_table ∷ steady_tables ++ pack_table ∷ [])
+  same =
+      spares a.now.trees b.now.trees c.now.trees d.now.trees e.now.trees daydetail_tree detail_tree schema_tree tables_2
+      (daydetail_table ∷ []) made.others dated.puts.others clears_others raises_others
 
-    module _ (e : State) (de : doubt d.is_clean ≤ doubt e.is_clean) (clears : IsThere c d → Clears detail_tree c d) where
-      cleared : HasCleanDisk d → IsTrue a.is_open → IsFor dating a.now → Clears detail_tree c d
-      cleared clean o first = clears (at_c clean o first)
+  carried : IsCarried a.now.trees e.now.trees dated.details
+  carried = record {
+    others = (same.0, (same.1.1.1.1.1.1.0, (same.1.1.0, (same.1.1.1.0, (same.1.1.1.1.0, (same.1.1.1.1.1.0, tt))))));
+    dated = subst (λ rows. IsMore (map detail_fact rows) [] (map DetailIs dated.details)) (sym same_dated)
+        (subst (λ rows. IsMore (map detail_fact (c.now.trees daydetail_tree)) (map detail_fact rows) (map DetailIs dated.details))
+        made.none daydetails_gained);
+    are = λ x.
+        let it = dated.are x in (
+          (λ m. known_as b.now.trees a.now.trees (sym made.others.1.0) (sym made.others.1.1.1.0) x (it.0 m)),
+          (λ is. it.1 (known_as a.now.trees b.now.trees made.others.1.0 made.others.1.1.1.0 x is)),
+        );
+  }
 
-      behind_d : HasCleanDisk d → IsTrue a.is_open → IsFor dating a.now → d.now.schema ≡ schema_3
-      behind_d clean o first = (cleared clean o first).schema ∙ (dated (omega (arith, clean, cd)) o first).puts.schema
-
-      at_d : HasCleanDisk e → IsTrue a.is_open → IsFor dating a.now → IsThere d e
-      at_d clean o first =
-          let early : HasCleanDisk d = omega (arith, clean, de) in
-          let it = cleared early o first in
-          there_3 d e clean it.is_open (behind_d early o first) it.sound
-
-      pub keeps_four : (HasCleanDisk b → KeepsCommit a b) → (IsThereDaily b c → KeepsCommit b c) → (IsThere c d → KeepsCommit c d)
-          → (IsThere d e → KeepsCommit d e) → HasCleanDisk e → IsTrue a.is_open → IsFor dating a.now → KeepsCommit a e
-      keeps_four one two three four clean o first =
-          keeps_then a d e (keeps_three one two three (omega (arith, clean, de)) o first) (four (at_d clean o first))
-
-      module _ (raises : IsThere d e → (was : ℤ) → versions_said d.now.trees ≡ was ∷ [] → Raises (pos 3) d e) where
-        module _ (clean : HasCleanDisk e) (o : IsTrue a.is_open) (first : IsFor dating a.now) where
-          clean_d : HasCleanDisk d
-          clean_d = omega (arith, clean, de)
-
-          clean_c : HasCleanDisk c
-          clean_c = omega (arith, clean, de, cd)
-
-          made : MakesDaydetail a b
-          made = makes (omega (arith, clean, de, cd, bc)) o first.store.store.schema
-
-          dates_others : KeepsOthers daydetail_tree b.now.trees c.now.trees tables_3
-          dates_others = (dated clean_c o first).puts.others
-
-          clears_others : KeepsOthers detail_tree c.now.trees d.now.trees tables_3
-          clears_others = others_of detail_tree schema_3 c d (dated clean_c o first).puts.schema (cleared clean_d o first).others
-
-          same_schema : d.now.trees schema_tree ≡ a.now.trees schema_tree
-          same_schema = clears_others.0 (λ e. omega arith) ∙ dates_others.0 (λ e. omega arith) ∙ made.others.0
-
-          raised : Raises (pos 3) d e
-          raised = raises (at_d clean o first) (pos 2) (ap (map (λ row. int_at row 1)) same_schema ∙ first.store.store.version)
-
-          raises_others : KeepsOthers schema_tree d.now.trees e.now.trees tables_3
-          raises_others = others_of schema_tree schema_3 d e (behind_d clean_d o first) raised.others
-
-          daydetails_gained : IsMore (map detail_fact (c.now.trees daydetail_tree)) (map detail_fact (b.now.trees daydetail_tree))
-              (map DetailIs (dated clean_c o first).details)
-          daydetails_gained =
-              let it = dated clean_c o first in
-              more detail_part detail_bare it.details (says_details it.details) b.now.trees c.now.trees it.puts.rows
-
-          same_dated : e.now.trees daydetail_tree ≡ c.now.trees daydetail_tree
-          same_dated = raises_others.1.1.1.1.1.1.1.1.1.0 (λ e. omega arith) ∙ clears_others.1.1.1.1.1.1.1.1.1.0 (λ e. omega arith)
-
-          same : Keeps a.now.trees e.now.trees (head_table ∷ version_table ∷ steady_tables ++ pack_table ∷ [])
-          same =
-              spares a.now.trees b.now.trees c.now.trees d.now.trees e.now.trees daydetail_tree detail_tree schema_tree tables_2
-              (daydetail_table ∷ []) made.others dates_others clears_others raises_others
-
-          carried : IsCarried a.now.trees e.now.trees (dated clean_c o first).details
-          carried = record {
-            others =
-                (same.0, (same.1.1.1.1.1.1.0, (same.1.1.0, (same.1.1.1.0, (same.1.1.1.1.0, (same.1.1.1.1.1.0, tt))))));
-            dated = subst (λ rows. IsMore (map detail_fact rows) [] (map DetailIs (dated clean_c o first).details)) (sym same_dated)
-                (subst (λ rows. IsMore (map detail_fact (c.now.trees daydetail_tree)) (map detail_fact rows) (map DetailIs (dated clean_c o first).details))
-                made.none daydetails_gained);
-            are = λ x.
-                let it = (dated clean_c o first).are x in (
-                  (λ m. known_as b.now.trees a.now.trees (sym made.others.1.0) (sym made.others.1.1.1.0) x (it.0 m)),
-                  (λ is. it.1 (known_as a.now.trees b.now.trees made.others.1.0 made.others.1.1.1.0 x is)),
-                );
-          }
-
-          has_dated : HasDated a.now.trees e.now.trees
-          has_dated = record {
-            becomes = carried_becomes a.now.trees e.now.trees (dated clean_c o first).details carried;
-            others = carried.others;
-            version = raised.version;
-            unversioned = same.1.0 ∙ first.store.unversioned;
-            undated = raises_others.1.1.1.0 (λ e. omega arith) ∙ (cleared clean_d o first).none;
-            sound = subst (λ schema. IsSound schema e.now.trees) (raised.schema ∙ behind_d clean_d o first) raised.sound;
-          }
-
-        pub takes_on : MakesThere schema_2 schema_3 a b → GoesOn c d → GoesOn d e → TakesOn dating a e
-        takes_on one three four = record {
-          was_open = λ clean o.
-              one.was_open (omega (arith, clean, bc, cd, de))
-              (on.was_open (omega (arith, clean, cd, de)) (three.was_open (omega (arith, clean, de)) (four.was_open clean o)));
-          is_open = λ clean o.
-              four.is_open clean (three.is_open (omega (arith, clean, de))
-              (on.is_open (omega (arith, clean, cd, de)) (one.is_open (omega (arith, clean, bc, cd, de)) o)));
-          inside = λ clean o.
-              four.inside clean (three.inside (omega (arith, clean, de))
-              (on.inside (omega (arith, clean, cd, de)) (one.inside (omega (arith, clean, bc, cd, de)) o)));
-          schema = λ clean o first. (raised clean o first).schema ∙ behind_d (clean_d clean o first) o first;
-          taken = λ clean o first. has_dated clean o first;
-        }
+  pub has_dated : HasDated a.now.trees e.now.trees
+  has_dated = record {
+    becomes = carried_becomes a.now.trees e.now.trees dated.details carried;
+    others = carried.others;
+    version = raised.version;
+    unversioned = same.1.0 ∙ first.store.unversioned;
+    undated = raises_others.1.1.1.0 (λ e. omega arith) ∙ cleared.none;
+    sound = subst (λ schema. IsSound schema e.now.trees) (raised.schema ∙ behind_d) raised.sound;
+  }

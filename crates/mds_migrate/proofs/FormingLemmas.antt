@@ -1,15 +1,13 @@
 -- Days that are given a head for each update that has a version.
-use Rattle.std.proofs.Common.{◌≡◌, ◌≤◌, ◌<◌, ◌+◌, ◌^◌, inl, inr, suc, zero, ℕ, List, [], ◌∷◌, ◌++◌, true, IsTrue, Option, Some, None, is_some, get_or, length as size, map, slice_index_or, take, unwrap_or, ◌-◌, refl, sym, ap, subst, ◌∙◌, arith}
+use Rattle.std.proofs.Common.{◌≡◌, ◌≤◌, ◌<◌, ◌+◌, ◌^◌, inl, inr, suc, zero, ℕ, List, [], ◌∷◌, ◌++◌, true, Option, Some, None, is_some, get_or, length as size, map, slice_index_or, take, unwrap_or, ◌-◌, refl, sym, ap, subst, ◌∙◌, arith}
 use Rattle.std.specs.Cmp.{tied_itself}
 use Rattle.std.specs.List.{AllPairs, flat_map, list_any}
 use Rattle.std.specs.declared.cmp.Ordering.TheVariants.{Less, Equal}
 use Rattle.std.proofs.lemmas.Bool.{cases_lt}
 use Rattle.std.proofs.lemmas.List.{map-append, take_more}
-use Rattle.sqlite.specs.State.{HasCleanDisk, IsUnchanged, KeepsCommit, State}
-use Rattle.sqlite.proofs.InsideLemmas.{keeps_then}
+use Rattle.sqlite.specs.State.{HasCleanDisk, IsUnchanged, State}
 use Rattle.sqlite_catalog.specs.Listing.{IsSound}
 use Rattle.sqlite_trees.specs.Tree.{Trees}
-use Rattle.sqlite_trees.specs.View.{doubt}
 use Rattle.sqlite_value.specs.Order.{Row, column}
 use Rattle.sqlite.specs.declared.types.Value.TheVariants.{Null}
 use Rattle.mds_names.specs.declared.stream.Stream.{Stream}
@@ -26,8 +24,9 @@ use Rattle.mds_tables.specs.Cells.{day_cells}
 use Rattle.mds_tables.specs.RowFacts.{head_fact, heads_in, natural_at, stream_in, text_at}
 use Rattle.mds_tables.specs.Stores.{Selects}
 use Rattle.mds_tables.specs.Tables.{head_columns, head_tree, schema_with}
-use Rattle.mds_inserts.specs.Writing.{PutsThere}
-use Rattle.mds_inserts.proofs.PutLemmas.{none_there, there_then}
+use Rattle.mds_inserts.specs.Frames.{IsAt}
+use Rattle.mds_inserts.specs.Writing.{Puts}
+use Rattle.mds_inserts.proofs.PutLemmas.{none_there, puts_then}
 use Rattle.mds_selects.proofs.Listed.{day_on, on_day}
 use Rattle.mds_selects.proofs.MemberLemmas.{place_of}
 use Rattle.mds_pack_rows.specs.DayRows.{shown_facts}
@@ -35,10 +34,9 @@ use Rattle.mds_pack_rows.specs.FormLayout.{day_in, forms_behind}
 use Rattle.mds_pack_rows.specs.FormTables.{schema_4}
 use Rattle.mds_pack_rows.specs.PackFacts.{body_facts, facts_from, minutes_of, pack_facts, pack_versions, readings_facts, readings_in}
 use Rattle.mds_pack_rows.specs.PackTables.{Behind, pack_tree, packs_then, update_columns}
-use Rattle.mds_pack_rows.specs.Putting.{FindsThere, GoesOn}
 use Rattle.mds_pack_rows.proofs.AskLemmas.{pack_row}
 use Rattle.mds_pack_rows.proofs.PutLemmas.{says_day}
-use Rattle.mds_form_rows.specs.FormPutting.{IsThereFormed, form_part}
+use Rattle.mds_form_rows.specs.FormPutting.{form_part}
 use Rattle.mds_migrate.specs.Forming.{AreFormsOf, Forms, FormsDays, IsBefore, IsFormOfDay, PutsForms, SaysForm, form_of}
 use Rattle.mds_migrate.specs.OldHeads.{updateless}
 use Rattle.mds_migrate.proofs.BehindQuery.{puts_since}
@@ -128,18 +126,21 @@ module _ (shown : Row) (head : Head) (is : head_fact (Null ∷ shown) ≡ HeadIs
 
 -- ---- one row of mds_pack after another
 
-pub forms_none : (s : State) (head : Head) → PutsForms s s head []
-forms_none s head = record { puts = none_there schema_4 form_part s; says = λ pack m. absurd m }
+pub forms_none : (s : State) (head : Head) → HasCleanDisk s → IsAt schema_4 s → PutsForms s s head []
+forms_none s head clean at = record {
+  puts = (none_there schema_4 form_part s).puts clean at.is_open at.schema at.sound;
+  says = λ pack m. absurd m;
+}
 
-pub forms_next : (a b c : State) → doubt b.is_clean ≤ doubt c.is_clean → (head : Head) (packs : List Row) (k : ℕ) (pack : Row) (form : Head)
-    → k < size packs → pack ≡ slice_index_or packs k pack → PutsForms a b head (take k packs) → form ≡ form_of head pack → SaysForm head pack
-    → PutsThere schema_4 form_part b c (form ∷ []) → PutsForms a c head (take (k + 1) packs)
-forms_next a b c later head packs k pack form low at p is says puts =
+pub forms_next : (a b c : State) (head : Head) (packs : List Row) (k : ℕ) (pack : Row) (form : Head) → k < size packs
+    → pack ≡ slice_index_or packs k pack → form ≡ form_of head pack → SaysForm head pack → PutsForms a b head (take k packs)
+    → Puts schema_4 form_part b c (form ∷ []) → PutsForms a c head (take (k + 1) packs)
+forms_next a b c head packs k pack form low at is says p puts =
     let front : take (k + 1) packs ≡ take k packs ++ pack ∷ [] = take_more packs k pack low ∙ ap (λ x. take k packs ++ x ∷ []) (sym at) in
-    let all = there_then schema_4 form_part a b c (map (form_of head) (take k packs)) (form_of head pack ∷ []) later p.puts
-    (subst (λ h. PutsThere schema_4 form_part b c (h ∷ [])) is puts) in
+    let all = puts_then schema_4 form_part a b c (map (form_of head) (take k packs)) (form_of head pack ∷ []) p.puts
+    (subst (λ h. Puts schema_4 form_part b c (h ∷ [])) is puts) in
     subst (PutsForms a c head) (sym front) (record {
-      puts = subst (PutsThere schema_4 form_part a c) (sym (map-append (form_of head) (take k packs) (pack ∷ []))) all;
+      puts = subst (Puts schema_4 form_part a c) (sym (map-append (form_of head) (take k packs) (pack ∷ []))) all;
       says = λ x m. elim (member_append x (take k packs) (pack ∷ []) m) [
         | inl n ↦ p.says x n
         | inr n ↦ subst (SaysForm head) (sym (one_member x pack n)) says
@@ -148,47 +149,23 @@ forms_next a b c later head packs k pack form low at p is says puts =
 
 -- ---- one day after another
 
-module _ (a b c : State) (later : doubt b.is_clean ≤ doubt c.is_clean) where
-  there_before : IsThereFormed a c → IsThereFormed a b
-  there_before there = record {
-    clean = omega (arith, there.clean, later);
-    is_open = there.is_open;
-    schema = there.schema;
-    sound = there.sound;
-  }
-
-  there_after : (heads : List Head) → PutsThere schema_4 form_part a b heads → IsThereFormed a c → IsThereFormed b c
-  there_after heads puts there =
-      let early : HasCleanDisk b = omega (arith, there.clean, later) in
-      let it = puts.puts early there.is_open there.schema there.sound in
-      record { clean = there.clean; is_open = puts.is_open early there.is_open; schema = it.schema; sound = it.sound }
-
-  -- the rows of mds_pack were asked for, and then heads put
-  pub forms_day : GoesOn a b → (shown : Row) (head : Head) → head_fact (Null ∷ shown) ≡ HeadIs head → head.day < 2 ^ 63 → (packs : List Row)
-      → (HasCleanDisk b → FindsThere a b (λ trees. Selects pack_tree (day_cells head.stream head.day) update_columns trees packs))
-      → PutsForms b c head packs → FormsDays a c (shown ∷ [])
-  forms_day on shown head is low packs finds p = record {
-    heads = map (form_of head) packs;
-    puts = puts_since schema_4 form_part a b c later on
-        (λ clean o has. let same = (finds clean).same forms_behind.more has in (same.0.now_is, same.0.committed_is))
-        (map (form_of head) packs) p.puts;
-    are = λ there.
-        let whole = subst (λ schema. IsSound schema a.now.trees) (sym there.schema) there.sound in
-        let sel = (finds (omega (arith, there.clean, later))).shows forms_behind.more there.schema whole in
-        of_one_day shown head is forms_behind low a.now.trees there.sound packs sel p.says;
-  }
-
-  -- the commit is kept behind a query
-  pub kept_since : (HasCleanDisk b → IsThereFormed a c → KeepsCommit a b) → (HasCleanDisk c → KeepsCommit b c) → IsThereFormed a c → KeepsCommit a c
-  kept_since first next there = keeps_then a b c (first (omega (arith, there.clean, later)) there) (next there.clean)
+-- the rows of mds_pack were asked for, and then heads put
+pub forms_day : (a b c : State) → IsAt schema_4 a → (shown : Row) (head : Head) → head_fact (Null ∷ shown) ≡ HeadIs head → head.day < 2 ^ 63
+    → (packs : List Row) → IsUnchanged a b × Selects pack_tree (day_cells head.stream head.day) update_columns a.now.trees packs
+    → PutsForms b c head packs → FormsDays a c (shown ∷ [])
+forms_day a b c at shown head is low packs found p = record {
+  heads = map (form_of head) packs;
+  puts = puts_since schema_4 form_part a b c found.0.0.now_is found.0.0.committed_is (map (form_of head) packs) p.puts;
+  are = of_one_day shown head is forms_behind low a.now.trees at.sound packs found.1 p.says;
+}
 
 -- of no days there are none
-pub forms_since : (a b : State) → GoesOn a b → (HasCleanDisk b → IsTrue a.is_open → a.now.schema ≡ schema_4 → IsUnchanged a b) → FormsDays a b []
-forms_since a b on same = record {
+pub forms_since : (a b : State) → HasCleanDisk b → IsAt schema_4 b → IsUnchanged a b → FormsDays a b []
+forms_since a b clean there same = record {
   heads = [];
-  puts = puts_since schema_4 form_part a b b (omega arith) on (λ clean o has. let it = (same clean o has).0 in (it.now_is, it.committed_is))
-      [] (none_there schema_4 form_part b);
-  are = λ there h. ((λ m. absurd m), (λ p. absurd p.1));
+  puts = puts_since schema_4 form_part a b b same.0.now_is same.0.committed_is []
+      ((none_there schema_4 form_part b).puts clean there.is_open there.schema there.sound);
+  are = λ h. ((λ m. absurd m), (λ p. absurd p.1));
 }
 
 -- what is said of mds_pack alone
@@ -210,21 +187,18 @@ of_both trees xs ys one two p q h = (
   ]),
 )
 
-module _ (a b c : State) (later : doubt b.is_clean ≤ doubt c.is_clean) where
+module _ (a b c : State) where
   forms_both : (xs ys : List Row) → FormsDays a b xs → FormsDays b c ys → FormsDays a c (xs ++ ys)
   forms_both xs ys p q = record {
     heads = p.heads ++ q.heads;
-    puts = there_then schema_4 form_part a b c p.heads q.heads later p.puts q.puts;
-    are = λ there.
-        let before = there_before a b c later there in
-        let first = p.puts.puts before.clean before.is_open before.schema before.sound in
-        let same : b.now.trees pack_tree ≡ a.now.trees pack_tree = first.others.1.1.1.1.1.1.1.1.0 (λ e. omega arith) in
-        let two = q.are (there_after a b c later p.heads p.puts there) in
+    puts = puts_then schema_4 form_part a b c p.heads q.heads p.puts q.puts;
+    are =
+        let same : b.now.trees pack_tree ≡ a.now.trees pack_tree = p.puts.others.1.1.1.1.1.1.1.1.0 (λ e. omega arith) in
         let back = form_as b.now.trees a.now.trees (sym same) in
         let on = form_as a.now.trees b.now.trees same in
         let more : AreFormsOf a.now.trees ys q.heads =
-        λ h. ((λ m. let it = (two h).0 m in (it.0, it.1, back it.0 h it.2)), (λ it. (two h).1 (it.0, it.1, on it.0 h it.2))) in
-        of_both a.now.trees xs ys p.heads q.heads (p.are before) more;
+        λ h. ((λ m. let it = (q.are h).0 m in (it.0, it.1, back it.0 h it.2)), (λ it. (q.are h).1 (it.0, it.1, on it.0 h it.2))) in
+        of_both a.now.trees xs ys p.heads q.heads p.are more;
   }
 
   pub days_next : (days : List Row) (k : ℕ) (day : Row) → k < size days → day ≡ slice_index_or days k day
@@ -232,11 +206,6 @@ module _ (a b c : State) (later : doubt b.is_clean ≤ doubt c.is_clean) where
   days_next days k day low is p q =
       let front : take (k + 1) days ≡ take k days ++ day ∷ [] = take_more days k day low ∙ ap (λ x. take k days ++ x ∷ []) (sym is) in
       subst (FormsDays a c) (sym front) (forms_both (take k days) (day ∷ []) p q)
-
-  pub kept_then : (xs : List Row) → FormsDays a b xs → (IsThereFormed a b → KeepsCommit a b) → (IsThereFormed b c → KeepsCommit b c)
-      → IsThereFormed a c → KeepsCommit a c
-  kept_then xs p keeps more there =
-      keeps_then a b c (keeps (there_before a b c later there)) (more (there_after a b c later p.heads p.puts there))
 
 -- ---- days in order
 
@@ -297,17 +266,14 @@ one_shown rows sorted a b m n same =
 -- ---- all days
 
 -- what is put for the days that are shown is put for all days that mds_head says
-pub forms_all : (a b c : State) → doubt b.is_clean ≤ doubt c.is_clean → (days : List Row)
-    → (HasCleanDisk b → FindsThere a b (λ trees. Selects head_tree [] head_columns trees days)) → AllPairs IsBefore days → FormsDays a c days
-    → IsThereFormed a c → Forms a c
-forms_all a b c later days finds sorted p there =
+pub forms_all : (a c : State) (days : List Row) → Selects head_tree [] head_columns a.now.trees days → AllPairs IsBefore days → FormsDays a c days
+    → Forms a c
+forms_all a c days sel sorted p =
     let trees = a.now.trees in
-    let whole = subst (λ schema. IsSound schema trees) (sym there.schema) there.sound in
-    let sel = (finds (omega (arith, there.clean, later))).shows forms_behind.more there.schema whole in
-    let are = p.are there in
+    let are = p.are in
     record {
       heads = p.heads;
-      puts = p.puts.puts there.clean there.is_open there.schema there.sound;
+      puts = p.puts;
       are = λ h. (
         (λ m.
             let it = (are h).0 m in

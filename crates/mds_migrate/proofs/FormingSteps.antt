@@ -1,14 +1,12 @@
 -- The parts of the step to schema 4, one after another.
-use Rattle.std.proofs.Common.{◌≡◌, ◌≤◌, ◌↔◌, suc, ℕ, ℤ, [], ◌∷◌, ◌++◌, List, drop, map, pos, IsTrue, sym, ap, subst, ◌∙◌, arith}
+use Rattle.std.proofs.Common.{◌≡◌, ◌↔◌, suc, ℕ, [], ◌∷◌, ◌++◌, List, drop, map, pos, sym, ap, subst, ◌∙◌, arith}
 use Rattle.std.specs.List.{flat_map}
 use Rattle.std.specs.List.Sorted.{IsPermutation}
 use Rattle.std.proofs.lemmas.List.Sorted.{IsPermutation-sym}
-use Rattle.sqlite.specs.State.{HasCleanDisk, KeepsCommit, State}
-use Rattle.sqlite.proofs.InsideLemmas.{keeps_then}
+use Rattle.sqlite.specs.State.{State}
 use Rattle.sqlite_catalog.specs.Listing.{IsSound}
 use Rattle.sqlite_rules.specs.Edit.{id_in}
 use Rattle.sqlite_trees.specs.Tree.{Trees}
-use Rattle.sqlite_trees.specs.View.{doubt}
 use Rattle.sqlite_value.specs.Order.{Row, bytes, column}
 use Rattle.mds_quantity.specs.declared.unit.Unit.{Unit as MeasureUnit}
 use Rattle.mds_marks.specs.Reading.{ReadingValue}
@@ -21,25 +19,22 @@ use Rattle.mds_world.specs.declared.facts.Head.{Head}
 use Rattle.mds_world.specs.declared.facts.Key.{Key}
 use Rattle.mds_world.proofs.Lists.{in_map, map_in}
 use Rattle.mds_tables.specs.Cells.{form_cells}
-use Rattle.mds_tables.specs.Making.{MakesThere}
-use Rattle.mds_tables.specs.RowFacts.{detail_fact, event_fact, head_fact, heads_in, holiday_fact, int_at, job_fact, natural, period_fact, text_at}
-use Rattle.mds_tables.specs.Stores.{versions_said}
+use Rattle.mds_tables.specs.RowFacts.{detail_fact, event_fact, head_fact, heads_in, holiday_fact, job_fact, natural, period_fact, text_at}
 use Rattle.mds_tables.specs.Tables.{detail_table, form_tree, head_tree, schema_tree, version_table}
 use Rattle.mds_inserts.specs.Writing.{Keeps, KeepsOthers}
 use Rattle.mds_selects.proofs.MemberLemmas.{moved}
 use Rattle.mds_selects.proofs.Named.{Names, of_detail, of_event, of_head, of_holiday, of_job, of_period, of_version}
 use Rattle.mds_pack_rows.specs.DailyLayout.{daily_layout, daily_own, versions_packed, world_3}
-use Rattle.mds_pack_rows.specs.DailyTables.{daydetail_table, schema_3, tables_3}
-use Rattle.mds_pack_rows.specs.FormLayout.{day_in, form_fact, form_heads, forms_behind, forms_layout, unit_in, world_4}
+use Rattle.mds_pack_rows.specs.DailyTables.{daydetail_table, tables_3}
+use Rattle.mds_pack_rows.specs.FormLayout.{day_in, form_fact, form_heads, forms_layout, unit_in, world_4}
 use Rattle.mds_pack_rows.specs.FormTables.{form_table, schema_4, tables_4}
 use Rattle.mds_pack_rows.specs.PackFacts.{pack_facts}
+use Rattle.mds_pack_rows.specs.Making.{MakesTable}
 use Rattle.mds_pack_rows.specs.PackTables.{pack_table}
-use Rattle.mds_pack_rows.specs.Putting.{GoesOn, IsThere}
 use Rattle.mds_pack_rows.proofs.PutLemmas.{others_of}
-use Rattle.mds_form_rows.specs.FormPutting.{IsThereFormed, MakesForm}
 use Rattle.mds_form_rows.proofs.UnitLemmas.{text_found}
 use Rattle.mds_migrate.specs.Forming.{Forms, IsPackedUnder, SayOneUnit}
-use Rattle.mds_migrate.specs.Migrated.{HasFormed, IsFor, TakesOn, forming, steady_tables}
+use Rattle.mds_migrate.specs.Migrated.{HasFormed, IsFor, forming, steady_tables}
 use Rattle.mds_migrate.specs.Migrating.{ClearsLengths, Raises, without_length}
 use Rattle.mds_migrate.specs.OldHeads.{IsFormedOf, updateless}
 use Rattle.mds_migrate.specs.OldLengths.{day_head}
@@ -155,147 +150,61 @@ module _ (old new : Trees) (heads : List Head) (c : IsGivenForms old new heads) 
       → HeadIs (head_over key unit) ∈ world_4 new
   kept key reading unit was headed = (becomes (HeadIs (head_over key unit))).1 (headed, (key.interval, reading, was))
 
--- ---- the chain
+-- ---- the parts, one after another
 
-there_4 : (a b : State) → HasCleanDisk b → IsTrue a.is_open → a.now.schema ≡ schema_4 → IsSound a.now.schema a.now.trees → IsThere a b
-there_4 a b clean o has sound =
-    record { clean = clean; is_open = o; rest = forms_behind; schema = has; sound = subst (λ schema. IsSound schema a.now.trees) has sound }
+module _ (a b c d e : State) (first : IsFor forming a.now) (made : MakesTable 10 a b) (put : Forms b c) (bared : ClearsLengths c d)
+    (raised : Raises (pos 4) d e) where
+  forms_others : KeepsOthers form_tree b.now.trees c.now.trees tables_4
+  forms_others = put.puts.others
 
-module _ (a b c : State) (bc : doubt b.is_clean ≤ doubt c.is_clean)
-    (makes : HasCleanDisk b → IsTrue a.is_open → a.now.schema ≡ schema_3 → MakesForm a b) where
-  at_b : HasCleanDisk c → IsTrue a.is_open → IsFor forming a.now → IsThereFormed b c
-  at_b clean o first =
-      let made = makes (omega (arith, clean, bc)) o first.store.store.schema in
-      record { clean = clean; is_open = made.is_open; schema = made.schema; sound = made.sound }
+  clears_others : KeepsOthers head_tree c.now.trees d.now.trees tables_4
+  clears_others = others_of head_tree schema_4 c d put.puts.schema bared.others
 
-  pub keeps_two : (HasCleanDisk b → KeepsCommit a b) → (IsThereFormed b c → KeepsCommit b c) → HasCleanDisk c → IsTrue a.is_open → IsFor forming a.now
-      → KeepsCommit a c
-  keeps_two one two clean o first = keeps_then a b c (one (omega (arith, clean, bc))) (two (at_b clean o first))
+  behind_d : d.now.schema ≡ schema_4
+  behind_d = bared.schema ∙ put.puts.schema
 
-  module _ (d : State) (cd : doubt c.is_clean ≤ doubt d.is_clean) (forms : IsThereFormed b c → Forms b c) (on : GoesOn b c) where
-    given : HasCleanDisk c → IsTrue a.is_open → IsFor forming a.now → Forms b c
-    given clean o first = forms (at_b clean o first)
+  raises_others : KeepsOthers schema_tree d.now.trees e.now.trees tables_4
+  raises_others = others_of schema_tree schema_4 d e behind_d raised.others
 
-    at_c : HasCleanDisk d → IsTrue a.is_open → IsFor forming a.now → IsThere c d
-    at_c clean o first =
-        let early : HasCleanDisk c = omega (arith, clean, cd) in
-        let it = (given early o first).puts in
-        record {
-          clean = clean;
-          is_open = on.is_open early (at_b early o first).is_open;
-          rest = forms_behind;
-          schema = it.schema;
-          sound = it.sound;
-        }
+  same : Keeps a.now.trees e.now.trees (version_table ∷ detail_table ∷ steady_tables ++ pack_table ∷ daydetail_table ∷ [])
+  same =
+      spares a.now.trees b.now.trees c.now.trees d.now.trees e.now.trees form_tree head_tree schema_tree tables_3 (form_table ∷ [])
+      made.others forms_others clears_others raises_others
 
-    pub keeps_three : (HasCleanDisk b → KeepsCommit a b) → (IsThereFormed b c → KeepsCommit b c) → (HasCleanDisk d → KeepsCommit c d) → HasCleanDisk d
-        → IsTrue a.is_open → IsFor forming a.now → KeepsCommit a d
-    keeps_three one two three clean o first = keeps_then a c d (keeps_two one two (omega (arith, clean, cd)) o first) (three clean)
+  given_forms : IsGivenForms a.now.trees e.now.trees put.heads
+  given_forms = record {
+    others =
+        (same.1.1.1.1.1.1.0, (same.1.1.1.1.1.1.1.0, (same.1.1.0, (same.1.1.1.0, (same.1.1.1.1.0, (same.1.1.1.1.1.0, tt))))));
+    days = subst (λ was. IsPermutation (map without_length was) (map (drop 1) (e.now.trees head_tree)))
+        (forms_others.1.0 (λ e. omega arith) ∙ made.others.1.0)
+        (subst (λ rows. IsPermutation (map without_length (c.now.trees head_tree)) (map (drop 1) rows))
+        (sym (raises_others.1.0 (λ e. omega arith))) bared.rows);
+    forms = subst (λ rows. IsPermutation (map form_cells put.heads) (map (drop 1) rows))
+        (sym (raises_others.1.1.1.1.1.1.1.1.1.1.0 (λ e. omega arith) ∙ clears_others.1.1.1.1.1.1.1.1.1.1.0 (λ e. omega arith)))
+        (subst (λ was. IsPermutation (map (drop 1) was ++ map form_cells put.heads) (map (drop 1) (c.now.trees form_tree))) made.none put.puts.rows);
+    are = λ h.
+        let it = put.are h in
+        let packed = made.others.1.1.1.1.1.1.1.1.0 in (
+          (λ m. let p = it.0 m in (
+            subst (λ rows. Member (HeadIs (updateless h)) (map head_fact rows)) made.others.1.0 p.0,
+            (p.1.0, p.1.1, subst (λ rows. Member (VersionIs (key_under h p.1.0) p.1.1) (flat_map pack_facts rows)) packed p.1.2),
+          )),
+          (λ p. it.1 (
+            subst (λ rows. Member (HeadIs (updateless h)) (map head_fact rows)) (sym made.others.1.0) p.0,
+            (p.1.0, p.1.1, subst (λ rows. Member (VersionIs (key_under h p.1.0) p.1.1) (flat_map pack_facts rows)) (sym packed) p.1.2),
+          )),
+        );
+    units = subst SayOneUnit made.others.1.0 put.units;
+  }
 
-    module _ (e : State) (de : doubt d.is_clean ≤ doubt e.is_clean) (clears : IsThere c d → ClearsLengths c d) where
-      cleared : HasCleanDisk d → IsTrue a.is_open → IsFor forming a.now → ClearsLengths c d
-      cleared clean o first = clears (at_c clean o first)
-
-      behind_d : HasCleanDisk d → IsTrue a.is_open → IsFor forming a.now → d.now.schema ≡ schema_4
-      behind_d clean o first = (cleared clean o first).schema ∙ (given (omega (arith, clean, cd)) o first).puts.schema
-
-      at_d : HasCleanDisk e → IsTrue a.is_open → IsFor forming a.now → IsThere d e
-      at_d clean o first =
-          let early : HasCleanDisk d = omega (arith, clean, de) in
-          let it = cleared early o first in
-          there_4 d e clean it.is_open (behind_d early o first) it.sound
-
-      pub keeps_four : (HasCleanDisk b → KeepsCommit a b) → (IsThereFormed b c → KeepsCommit b c) → (HasCleanDisk d → KeepsCommit c d)
-          → (IsThere d e → KeepsCommit d e) → HasCleanDisk e → IsTrue a.is_open → IsFor forming a.now → KeepsCommit a e
-      keeps_four one two three four clean o first =
-          keeps_then a d e (keeps_three one two three (omega (arith, clean, de)) o first) (four (at_d clean o first))
-
-      module _ (raises : IsThere d e → (was : ℤ) → versions_said d.now.trees ≡ was ∷ [] → Raises (pos 4) d e) where
-        module _ (clean : HasCleanDisk e) (o : IsTrue a.is_open) (first : IsFor forming a.now) where
-          clean_d : HasCleanDisk d
-          clean_d = omega (arith, clean, de)
-
-          clean_c : HasCleanDisk c
-          clean_c = omega (arith, clean, de, cd)
-
-          made : MakesForm a b
-          made = makes (omega (arith, clean, de, cd, bc)) o first.store.store.schema
-
-          put : Forms b c
-          put = given clean_c o first
-
-          bared : ClearsLengths c d
-          bared = cleared clean_d o first
-
-          forms_others : KeepsOthers form_tree b.now.trees c.now.trees tables_4
-          forms_others = put.puts.others
-
-          clears_others : KeepsOthers head_tree c.now.trees d.now.trees tables_4
-          clears_others = others_of head_tree schema_4 c d put.puts.schema bared.others
-
-          same_schema : d.now.trees schema_tree ≡ a.now.trees schema_tree
-          same_schema = clears_others.0 (λ e. omega arith) ∙ forms_others.0 (λ e. omega arith) ∙ made.others.0
-
-          raised : Raises (pos 4) d e
-          raised = raises (at_d clean o first) (pos 3) (ap (map (λ row. int_at row 1)) same_schema ∙ first.store.store.version)
-
-          raises_others : KeepsOthers schema_tree d.now.trees e.now.trees tables_4
-          raises_others = others_of schema_tree schema_4 d e (behind_d clean_d o first) raised.others
-
-          same : Keeps a.now.trees e.now.trees (version_table ∷ detail_table ∷ steady_tables ++ pack_table ∷ daydetail_table ∷ [])
-          same =
-              spares a.now.trees b.now.trees c.now.trees d.now.trees e.now.trees form_tree head_tree schema_tree tables_3 (form_table ∷ [])
-              made.others forms_others clears_others raises_others
-
-          given_forms : IsGivenForms a.now.trees e.now.trees put.heads
-          given_forms = record {
-            others =
-                (same.1.1.1.1.1.1.0, (same.1.1.1.1.1.1.1.0, (same.1.1.0, (same.1.1.1.0, (same.1.1.1.1.0, (same.1.1.1.1.1.0, tt))))));
-            days = subst (λ was. IsPermutation (map without_length was) (map (drop 1) (e.now.trees head_tree)))
-                (forms_others.1.0 (λ e. omega arith) ∙ made.others.1.0)
-                (subst (λ rows. IsPermutation (map without_length (c.now.trees head_tree)) (map (drop 1) rows))
-                (sym (raises_others.1.0 (λ e. omega arith))) bared.rows);
-            forms = subst (λ rows. IsPermutation (map form_cells put.heads) (map (drop 1) rows))
-                (sym (raises_others.1.1.1.1.1.1.1.1.1.1.0 (λ e. omega arith) ∙ clears_others.1.1.1.1.1.1.1.1.1.1.0 (λ e. omega arith)))
-                (subst (λ was. IsPermutation (map (drop 1) was ++ map form_cells put.heads) (map (drop 1) (c.now.trees form_tree))) made.none put.puts.rows);
-            are = λ h.
-                let it = put.are h in
-                let packed = made.others.1.1.1.1.1.1.1.1.0 in (
-                  (λ m. let p = it.0 m in (
-                    subst (λ rows. Member (HeadIs (updateless h)) (map head_fact rows)) made.others.1.0 p.0,
-                    (p.1.0, p.1.1, subst (λ rows. Member (VersionIs (key_under h p.1.0) p.1.1) (flat_map pack_facts rows)) packed p.1.2),
-                  )),
-                  (λ p. it.1 (
-                    subst (λ rows. Member (HeadIs (updateless h)) (map head_fact rows)) (sym made.others.1.0) p.0,
-                    (p.1.0, p.1.1, subst (λ rows. Member (VersionIs (key_under h p.1.0) p.1.1) (flat_map pack_facts rows)) (sym packed) p.1.2),
-                  )),
-                );
-            units = subst SayOneUnit made.others.1.0 put.units;
-          }
-
-          has_formed : HasFormed a.now.trees e.now.trees
-          has_formed = record {
-            becomes = becomes a.now.trees e.now.trees put.heads given_forms;
-            kept = kept a.now.trees e.now.trees put.heads given_forms;
-            others = given_forms.others;
-            heads = given_forms.days;
-            version = raised.version;
-            unversioned = same.0 ∙ first.store.bare.0;
-            undated = same.1.0 ∙ first.store.bare.1;
-            sound = subst (λ schema. IsSound schema e.now.trees) (raised.schema ∙ behind_d clean_d o first) raised.sound;
-          }
-
-        pub takes_on : MakesThere schema_3 schema_4 a b → GoesOn c d → GoesOn d e → TakesOn forming a e
-        takes_on one three four = record {
-          was_open = λ clean o.
-              one.was_open (omega (arith, clean, bc, cd, de))
-              (on.was_open (omega (arith, clean, cd, de)) (three.was_open (omega (arith, clean, de)) (four.was_open clean o)));
-          is_open = λ clean o.
-              four.is_open clean (three.is_open (omega (arith, clean, de))
-              (on.is_open (omega (arith, clean, cd, de)) (one.is_open (omega (arith, clean, bc, cd, de)) o)));
-          inside = λ clean o.
-              four.inside clean (three.inside (omega (arith, clean, de))
-              (on.inside (omega (arith, clean, cd, de)) (one.inside (omega (arith, clean, bc, cd, de)) o)));
-          schema = λ clean o first. (raised clean o first).schema ∙ behind_d (clean_d clean o first) o first;
-          taken = λ clean o first. has_formed clean o first;
-        }
+  pub has_formed : HasFormed a.now.trees e.now.trees
+  has_formed = record {
+    becomes = becomes a.now.trees e.now.trees put.heads given_forms;
+    kept = kept a.now.trees e.now.trees put.heads given_forms;
+    others = given_forms.others;
+    heads = given_forms.days;
+    version = raised.version;
+    unversioned = same.0 ∙ first.store.bare.0;
+    undated = same.1.0 ∙ first.store.bare.1;
+    sound = subst (λ schema. IsSound schema e.now.trees) (raised.schema ∙ behind_d) raised.sound;
+  }

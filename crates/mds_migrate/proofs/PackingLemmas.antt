@@ -1,5 +1,5 @@
 -- The versions of the days of all heads are all that mds_version says, each with the length of its day's head.
-use Rattle.std.proofs.Common.{◌≡◌, ◌≤◌, ◌<◌, ◌^◌, ◌+◌, ◌↔◌, inl, inr, ℕ, List, [], ◌∷◌, ◌++◌, length, map, slice_index_or, take, refl, sym, ap, subst, ◌∙◌, arith}
+use Rattle.std.proofs.Common.{◌≡◌, ◌<◌, ◌^◌, ◌+◌, ◌↔◌, inl, inr, ℕ, List, [], ◌∷◌, ◌++◌, length, map, slice_index_or, take, refl, sym, ap, subst, ◌∙◌, arith}
 use Rattle.std.specs.List.{flat_map}
 use Rattle.std.proofs.lemmas.List.{take_more}
 use Rattle.sqlite.specs.Effect.{Database}
@@ -7,7 +7,6 @@ use Rattle.sqlite.specs.State.{HasCleanDisk, IsUnchanged, State}
 use Rattle.sqlite.specs.declared.types.Value.TheVariants.{Null}
 use Rattle.sqlite_catalog.specs.Listing.{IsSound}
 use Rattle.sqlite_trees.specs.Tree.{Trees}
-use Rattle.sqlite_trees.specs.View.{doubt}
 use Rattle.sqlite_value.specs.Order.{Row, column}
 use Rattle.mds_names.specs.declared.stream.Stream.{Stream}
 use Rattle.mds_world.specs.FactOrder.{exact, total}
@@ -29,17 +28,19 @@ use Rattle.mds_keeper.specs.declared.day_book.Version.{Version}
 use Rattle.mds_tables.specs.Cells.{day_cells}
 use Rattle.mds_tables.specs.RowFacts.{head_fact, lengthless, version_fact, versions_in}
 use Rattle.mds_tables.specs.Stores.{Begins, Selects}
-use Rattle.mds_tables.specs.Tables.{More, head_columns, head_tree, schema_with, version_columns, version_tree}
+use Rattle.mds_tables.specs.Tables.{head_columns, head_tree, schema_with, version_columns, version_tree}
+use Rattle.mds_inserts.specs.Frames.{IsAt}
 use Rattle.mds_inserts.specs.Writing.{KeepsOthers}
 use Rattle.mds_inserts.proofs.RowLemmas.{of}
 use Rattle.mds_selects.specs.Shown.{AreVersionsIn}
 use Rattle.mds_selects.proofs.Listed.{Tells, listed, tells, told, version_on}
 use Rattle.mds_selects.proofs.Named.{Names}
 use Rattle.mds_pack_rows.specs.PackFacts.{pack_facts, pack_versions}
-use Rattle.mds_pack_rows.specs.PackTables.{Behind, pack_tree, packs_then}
-use Rattle.mds_pack_rows.specs.PacksLayout.{packs_over}
-use Rattle.mds_pack_rows.specs.Putting.{ChangesPacks, FindsThere, GoesOn, IsAmong, IsThere, PutsFacts}
-use Rattle.mds_pack_rows.proofs.PutLemmas.{as_rows, is_database, others_of, puts_none, puts_since, puts_then, there_after, there_before}
+use Rattle.mds_pack_rows.specs.PackTables.{Behind, pack_tree, packs_then, schema_2}
+use Rattle.mds_pack_rows.specs.PacksLayout.{nothing_behind, packs_over}
+use Rattle.mds_pack_rows.specs.Putting.{ChangesPacks, IsAmong, NamesMore}
+use Rattle.mds_pack_rows.proofs.FrameLemmas.{there_at}
+use Rattle.mds_pack_rows.proofs.PutLemmas.{as_rows, changes_then, others_of, puts_none}
 use Rattle.mds_migrate.specs.Migrating.{IsLengthened, Packs}
 use Rattle.mds_migrate.specs.OldHeads.{updateless}
 use Rattle.mds_migrate.specs.OldLengths.{day_head, erased}
@@ -126,12 +127,26 @@ module _ (shown : Row) (head : Head) (is : head_fact (Null ∷ shown) ≡ HeadIs
 
 -- ---- one day after another
 
+-- what is put behind a query, which changes nothing
+changes_since : (a b c : State) → b.now ≡ a.now → b.committed ≡ a.committed → (facts : List Fact)
+    → ChangesPacks b c × NamesMore b.now.trees c.now.trees facts → ChangesPacks a c × NamesMore a.now.trees c.now.trees facts
+changes_since a b c now committed facts it = (
+  record {
+    is_open = it.0.is_open;
+    schema = it.0.schema ∙ ap (λ (d : Database). d.schema) now;
+    others = subst (λ (d : Database). KeepsOthers pack_tree d.trees c.now.trees d.schema.tables) now it.0.others;
+    committed = it.0.committed ∙ committed;
+    sound = it.0.sound;
+  },
+  subst (λ (d : Database). NamesMore d.trees c.now.trees facts) now it.1,
+)
+
 -- of no heads there are no versions
-pub packs_none : (s : State) → PacksDays s s []
-packs_none s = record {
+pub packs_since : (a b : State) → HasCleanDisk b → IsAt schema_2 b → IsUnchanged a b → PacksDays a b []
+packs_since a b clean there same = record {
   facts = [];
-  puts = puts_none s;
-  are = λ there f. ((λ m. absurd m), (λ p. absurd p.1.1));
+  puts = changes_since a b b same.0.now_is same.0.committed_is [] ((puts_none b).1 (there_at nothing_behind b b clean there));
+  are = λ f. ((λ m. absurd m), (λ p. absurd p.1.1));
 }
 
 -- those of some days and of others
@@ -148,24 +163,18 @@ of_both trees xs ys one two p q f = (
   ]),
 )
 
--- every table but mds_pack is kept, under the schema that there was
-kept_others : (a b : State) (there : IsThere a b) → ChangesPacks a b
-    → KeepsOthers pack_tree a.now.trees b.now.trees (schema_with (packs_then there.rest.more)).tables
-kept_others a b there it = others_of pack_tree (schema_with (packs_then there.rest.more)) a b there.schema it.others
-
-module _ (a b c : State) (later : doubt b.is_clean ≤ doubt c.is_clean) where
+module _ (a b c : State) (at : IsAt schema_2 a) where
   packs_both : (xs ys : List Row) → PacksDays a b xs → PacksDays b c ys → PacksDays a c (xs ++ ys)
   packs_both xs ys p q = record {
     facts = p.facts ++ q.facts;
-    puts = puts_then a b c later p.facts q.facts p.puts q.puts;
-    are = λ there.
-        let before = there_before a b c later there in
-        let first = (p.puts.1 before).0 in
-        let same : b.now.trees version_tree ≡ a.now.trees version_tree = (kept_others a b before first).1.1.0 (λ e. omega arith) in
+    puts = changes_then a b c p.facts q.facts p.puts q.puts;
+    are =
+        let kept : KeepsOthers pack_tree a.now.trees b.now.trees schema_2.tables = others_of pack_tree schema_2 a b at.schema p.puts.0.others in
+        let same : b.now.trees version_tree ≡ a.now.trees version_tree = kept.1.1.0 (λ e. omega arith) in
         let more : AreOfDays a.now.trees ys q.facts =
         subst (λ rows. (f : Fact) → Member f q.facts ↔ (Member (erased f) (map version_fact rows) × ((head : Row) × Member head ys × IsUnder head f)))
-        same (q.are (there_after a b c later there first)) in
-        of_both a.now.trees xs ys p.facts q.facts (p.are before) more;
+        same q.are in
+        of_both a.now.trees xs ys p.facts q.facts p.are more;
   }
 
   pub packs_next : (heads : List Row) (k : ℕ) (head : Row) → k < length heads → head ≡ slice_index_or heads k head
@@ -174,50 +183,20 @@ module _ (a b c : State) (later : doubt b.is_clean ≤ doubt c.is_clean) where
       let front : take (k + 1) heads ≡ take k heads ++ head ∷ [] = take_more heads k head low ∙ ap (λ x. take k heads ++ x ∷ []) (sym is) in
       subst (PacksDays a c) (sym front) (packs_both (take k heads) (head ∷ []) p q)
 
--- ---- behind a query, which changes nothing
-
-module _ (a b c : State) (later : doubt b.is_clean ≤ doubt c.is_clean)
-    (same : HasCleanDisk b → (rest : More) → a.now.schema ≡ schema_with (packs_then rest) → IsUnchanged a b) where
-  module _ (there : IsThere a c) where
-    abbrev still : IsUnchanged a b
-    still = same (omega (arith, there.clean, later)) there.rest.more there.schema
-
-    now_is : b.now ≡ a.now
-    now_is = still.0.now_is
-
-    there_now : IsThere b c
-    there_now = record {
-      clean = there.clean;
-      is_open = still.0.is_open;
-      rest = there.rest;
-      schema = ap (λ (d : Database). d.schema) now_is ∙ there.schema;
-      sound = subst (λ (d : Database). IsSound (schema_with (packs_then there.rest.more)) d.trees) (sym now_is) there.sound;
+-- The versions of a day were asked for, and then put.
+pub packs_day : (a b c : State) → IsAt schema_2 a → (shown : Row) (head : Head) → head_fact (Null ∷ shown) ≡ HeadIs head → head.day < 2 ^ 63
+    → (rows : List Row) (vs : List (ℕ × Version)) → AreVersionsIn head.length rows vs
+    → IsUnchanged a b × Selects version_tree (day_cells head.stream head.day) version_columns a.now.trees rows
+    → ChangesPacks b c × NamesMore b.now.trees c.now.trees (map content.version_fact (map (content.version_at head.stream head.day) vs))
+    → PacksDays a c (shown ∷ [])
+packs_day a b c at shown head is low rows vs are found puts =
+    let facts = map (row_fact head.stream head.day) vs in
+    record {
+      facts = facts;
+      puts = changes_since a b c found.0.0.now_is found.0.0.committed_is facts
+          (subst (λ fs. ChangesPacks b c × NamesMore b.now.trees c.now.trees fs) (sym (as_rows head.stream head.day vs)) puts);
+      are = of_one_day shown head is nothing_behind low a.now.trees at.sound rows found.1 vs are;
     }
-
-  pub packs_since : GoesOn a b → (heads : List Row) → PacksDays b c heads → PacksDays a c heads
-  packs_since first heads p = record {
-    facts = p.facts;
-    puts = puts_since a b c later same first p.facts p.puts;
-    are = λ there. subst (λ (d : Database). AreOfDays d.trees heads p.facts) (now_is there) (p.are (there_now there));
-  }
-
-  -- what a query over the tables showed, it shows of them where the connection was there
-  shows_there : IsThere a c → (Shows : Trees → Type 0) → (HasCleanDisk b → FindsThere a b Shows) → Shows a.now.trees
-  shows_there there Shows finds = (finds (omega (arith, there.clean, later))).shows there.rest.more there.schema (is_database a c there)
-
-  -- The versions of a day were asked for, and then put.
-  pub packs_day : GoesOn a b → (shown : Row) (head : Head) → head_fact (Null ∷ shown) ≡ HeadIs head → head.day < 2 ^ 63
-      → (rows : List Row) (vs : List (ℕ × Version)) → AreVersionsIn head.length rows vs
-      → (HasCleanDisk b → FindsThere a b (λ trees. Selects version_tree (day_cells head.stream head.day) version_columns trees rows))
-      → PutsFacts b c (map content.version_fact (map (content.version_at head.stream head.day) vs)) → PacksDays a c (shown ∷ [])
-  packs_day first shown head is low rows vs are finds puts =
-      let facts = map (row_fact head.stream head.day) vs in
-      record {
-        facts = facts;
-        puts = puts_since a b c later same first facts (subst (PutsFacts b c) (sym (as_rows head.stream head.day vs)) puts);
-        are = λ there. of_one_day shown head is there.rest low a.now.trees there.sound rows
-            (shows_there there (λ trees. Selects version_tree (day_cells head.stream head.day) version_columns trees rows) finds) vs are;
-      }
 
 -- ---- all heads
 
@@ -247,15 +226,15 @@ module _ (trees : Trees) (heads : List Row) (sel : Selects head_tree [] head_col
   of_all (JobIs id content count) = (λ m. absurd ((are (JobIs id content count)).0 m).1.2, λ none. absurd none)
 
 -- so mds_pack says them, where it had no row
-packs_all : (a c : State) (heads : List Row) → PacksDays a c heads → IsThere a c → a.now.trees pack_tree ≡ []
+pub packs_all : (a c : State) (heads : List Row) → PacksDays a c heads → a.now.trees pack_tree ≡ []
     → Selects head_tree [] head_columns a.now.trees heads → Packs a c
-packs_all a c heads p there none sel =
-    let it = p.puts.1 there in
+packs_all a c heads p none sel =
+    let it = p.puts in
     let facts = of p.facts in
     let was : of (pack_versions a.now.trees) ≡ of [] = ap (λ rows. of (flat_map pack_facts rows)) none in
     let same : of (pack_versions c.now.trees) ≡ facts =
     it.1.names ∙ ap (λ w. union w facts) was ∙ union_comm total exact (of []) facts ∙ union_empty total exact facts in
-    let all = of_all a.now.trees heads sel p.facts (p.are there) in
+    let all = of_all a.now.trees heads sel p.facts p.are in
     record {
       changes = it.0;
       lengthened = λ f. (
@@ -267,11 +246,3 @@ packs_all a c heads p there none sel =
         | inr s ↦ λ silent. absurd (subst (Member s.0) silent s.2)
       ];
     }
-
--- the same behind the query that showed them
-pub packs_every : (a b c : State) → doubt b.is_clean ≤ doubt c.is_clean → (heads : List Row)
-    → (HasCleanDisk b → FindsThere a b (λ trees. Selects head_tree [] head_columns trees heads)) → PacksDays a c heads
-    → IsThere a c → a.now.trees pack_tree ≡ [] → Packs a c
-packs_every a b c later heads finds p there none =
-    packs_all a c heads p there none
-    (shows_there a b c later (λ clean. (finds clean).same) there (λ trees. Selects head_tree [] head_columns trees heads) finds)

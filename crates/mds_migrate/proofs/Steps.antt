@@ -1,13 +1,11 @@
 -- The parts of the step to schema 2, one after another.
-use Rattle.std.proofs.Common.{◌≡◌, ◌≤◌, ◌↔◌, [], ◌∷◌, ◌++◌, List, ℕ, ℤ, map, pos, Bool, true, false, not, ◌&&◌, cond, eqb, Ok, Err, IsTrue, OnOk, Result, refl, sym, ap, subst, ◌∙◌, arith}
+use Rattle.std.proofs.Common.{◌≡◌, ◌↔◌, [], ◌∷◌, ◌++◌, List, ℕ, map, pos, Bool, true, false, not, ◌&&◌, cond, eqb, refl, sym, ap, subst, ◌∙◌, arith}
 use Rattle.std.specs.List.{filter, flat_map}
 use Rattle.std.proofs.lemmas.Bool.{and_parts, eqb-false, not-true}
-use Rattle.sqlite.specs.State.{HasCleanDisk, KeepsCommit, State}
+use Rattle.sqlite.specs.State.{State}
 use Rattle.sqlite.specs.Table.{Table}
-use Rattle.sqlite.proofs.InsideLemmas.{keeps_then}
 use Rattle.sqlite_catalog.specs.Listing.{IsSound}
 use Rattle.sqlite_trees.specs.Tree.{Trees}
-use Rattle.sqlite_trees.specs.View.{doubt}
 use Rattle.sqlite_value.specs.Order.{Row}
 use Rattle.mds_quantity.specs.declared.unit.Unit.{Unit as MeasureUnit}
 use Rattle.mds_names.specs.declared.stream.Stream.{Stream}
@@ -20,18 +18,16 @@ use Rattle.mds_world.specs.declared.facts.Detail.{Detail}
 use Rattle.mds_world.specs.declared.facts.Key.{Key}
 use Rattle.mds_world.proofs.Lists.{in_map, map_in}
 use Rattle.mds_tables.specs.Layouts.{rows_layout, world_with}
-use Rattle.mds_tables.specs.Making.{MakesThere}
-use Rattle.mds_tables.specs.RowFacts.{event_fact, head_fact, holiday_fact, int_at, job_fact, lengthless, natural_at, period_fact, stream_in, text_at, unit_named, version_fact}
-use Rattle.mds_tables.specs.Stores.{versions_said}
+use Rattle.mds_tables.specs.RowFacts.{event_fact, head_fact, holiday_fact, job_fact, lengthless, natural_at, period_fact, stream_in, text_at, unit_named, version_fact}
 use Rattle.mds_tables.specs.Tables.{detail_table, head_table, head_tree, no_more, schema_1, schema_tree, tables_1, version_tree}
 use Rattle.mds_inserts.specs.Writing.{Keeps, KeepsOthers}
 use Rattle.mds_selects.proofs.Named.{Names, of_detail, of_event, of_head_row, of_holiday, of_job, of_period, of_version}
 use Rattle.mds_pack_rows.specs.PackFacts.{pack_facts, pack_versions}
+use Rattle.mds_pack_rows.specs.Making.{MakesTable}
 use Rattle.mds_pack_rows.specs.PackTables.{pack_table, pack_tree, schema_2, tables_2}
-use Rattle.mds_pack_rows.specs.PacksLayout.{nothing_behind, packs_layout, world_2}
-use Rattle.mds_pack_rows.specs.Putting.{GoesOn, IsThere, MakesPack}
+use Rattle.mds_pack_rows.specs.PacksLayout.{packs_layout, world_2}
 use Rattle.mds_pack_rows.proofs.PutLemmas.{others_of}
-use Rattle.mds_migrate.specs.Migrated.{HasPacked, IsFor, TakesOn, packing, steady_tables}
+use Rattle.mds_migrate.specs.Migrated.{HasPacked, IsFor, packing, steady_tables}
 use Rattle.mds_migrate.specs.Migrating.{Clears, IsLengthened, Packs, Raises}
 use Rattle.mds_migrate.specs.OldLengths.{CameOf, day_head}
 use Rattle.mds_migrate.proofs.HeadLemmas.{has_head}
@@ -168,159 +164,55 @@ spares a b c d e p q r (t ∷ ts) more one two three four =
       | false ↦ λ _. rest
     ] refl
 
--- ---- where the parts begin
+-- ---- the parts, one after another
 
--- over the tables of schema 2 the connection is there
-there_2 : (old new : State) → HasCleanDisk new → IsTrue old.is_open → old.now.schema ≡ schema_2 → IsSound schema_2 old.now.trees → IsThere old new
-there_2 old new clean is_open has sound = record { clean = clean; is_open = is_open; rest = nothing_behind; schema = has; sound = sound }
+module _ (a b c d e : State) (first : IsFor packing a.now) (made : MakesTable 8 a b) (packs : b.now.trees pack_tree ≡ [] → Packs b c)
+    (cleared : Clears version_tree c d) (raised : Raises (pos 2) d e) where
+  packed : Packs b c
+  packed = packs made.none
 
--- and so it is behind a part that keeps the schema
-there_then : (a b c : State) → HasCleanDisk c → IsTrue b.is_open → b.now.schema ≡ a.now.schema → IsSound b.now.schema b.now.trees
-    → a.now.schema ≡ schema_2 → IsThere b c
-there_then a b c clean is_open same sound has =
-    there_2 b c clean is_open (same ∙ has) (subst (λ schema. IsSound schema b.now.trees) (same ∙ has) sound)
+  packs_others : KeepsOthers pack_tree b.now.trees c.now.trees tables_2
+  packs_others = others_of pack_tree schema_2 b c made.schema packed.changes.others
 
-module _ (a b c d e : State) (bc : doubt b.is_clean ≤ doubt c.is_clean) (cd : doubt c.is_clean ≤ doubt d.is_clean)
-    (de : doubt d.is_clean ≤ doubt e.is_clean)
-    (makes : HasCleanDisk b → IsTrue a.is_open → a.now.schema ≡ schema_1 → MakesPack a b)
-    (packs : IsThere b c → b.now.trees pack_tree ≡ [] → Packs b c) (clears : IsThere c d → Clears version_tree c d)
-    (raises : IsThere d e → (said : ℤ) → versions_said d.now.trees ≡ said ∷ [] → Raises (pos 2) d e) where
-  module _ (clean : HasCleanDisk e) (is_open : IsTrue a.is_open) (first : IsFor packing a.now) where
-    made : MakesPack a b
-    made = makes (omega (arith, clean, bc, cd, de)) is_open first.store.schema
+  clears_others : KeepsOthers version_tree c.now.trees d.now.trees tables_2
+  clears_others = others_of version_tree schema_2 c d (packed.changes.schema ∙ made.schema) cleared.others
 
-    pub at_b : IsThere b c
-    at_b = there_2 b c (omega (arith, clean, cd, de)) made.is_open made.schema made.sound
+  behind_d : d.now.schema ≡ schema_2
+  behind_d = cleared.schema ∙ packed.changes.schema ∙ made.schema
 
-    packed : Packs b c
-    packed = packs at_b made.none
+  raises_others : KeepsOthers schema_tree d.now.trees e.now.trees tables_2
+  raises_others = others_of schema_tree schema_2 d e behind_d raised.others
 
-    pub at_c : IsThere c d
-    at_c = there_then b c d (omega (arith, clean, de)) packed.changes.is_open packed.changes.schema packed.changes.sound made.schema
+  same_others : Keeps a.now.trees e.now.trees (head_table ∷ detail_table ∷ steady_tables)
+  same_others =
+      spares a.now.trees b.now.trees c.now.trees d.now.trees e.now.trees pack_tree version_tree schema_tree tables_1 (pack_table ∷ [])
+      made.others packs_others clears_others raises_others
 
-    cleared : Clears version_tree c d
-    cleared = clears at_c
+  same_packs : e.now.trees pack_tree ≡ c.now.trees pack_tree
+  same_packs = raises_others.1.1.1.1.1.1.1.1.0 (λ e. omega arith) ∙ clears_others.1.1.1.1.1.1.1.1.0 (λ e. omega arith)
 
-    pub at_d : IsThere d e
-    at_d = there_then c d e clean cleared.is_open cleared.schema cleared.sound (packed.changes.schema ∙ made.schema)
+  -- what mds_version and mds_head said before mds_pack was made
+  lengthened_as : (fact : Fact) → IsLengthened b.now.trees fact ↔ IsLengthened a.now.trees fact
+  lengthened_as = as_before b.now.trees a.now.trees (sym made.others.1.1.0) (sym made.others.1.0)
 
-    packs_others : KeepsOthers pack_tree b.now.trees c.now.trees tables_2
-    packs_others = others_of pack_tree schema_2 b c made.schema packed.changes.others
-
-    clears_others : KeepsOthers version_tree c.now.trees d.now.trees tables_2
-    clears_others = others_of version_tree schema_2 c d (packed.changes.schema ∙ made.schema) cleared.others
-
-    same_schema : d.now.trees schema_tree ≡ a.now.trees schema_tree
-    same_schema = clears_others.0 (λ e. omega arith) ∙ packs_others.0 (λ e. omega arith) ∙ made.others.0
-
-    says : versions_said d.now.trees ≡ pos 1 ∷ []
-    says = ap (map (λ row. int_at row 1)) same_schema ∙ first.store.version
-
-    raised : Raises (pos 2) d e
-    raised = raises at_d (pos 1) says
-
-    behind_d : d.now.schema ≡ schema_2
-    behind_d = cleared.schema ∙ packed.changes.schema ∙ made.schema
-
-    raises_others : KeepsOthers schema_tree d.now.trees e.now.trees tables_2
-    raises_others = others_of schema_tree schema_2 d e behind_d raised.others
-
-    same_others : Keeps a.now.trees e.now.trees (head_table ∷ detail_table ∷ steady_tables)
-    same_others =
-        spares a.now.trees b.now.trees c.now.trees d.now.trees e.now.trees pack_tree version_tree schema_tree tables_1 (pack_table ∷ [])
-        made.others packs_others clears_others raises_others
-
-    same_packs : e.now.trees pack_tree ≡ c.now.trees pack_tree
-    same_packs = raises_others.1.1.1.1.1.1.1.1.0 (λ e. omega arith) ∙ clears_others.1.1.1.1.1.1.1.1.0 (λ e. omega arith)
-
-    -- what mds_version and mds_head said before mds_pack was made
-    lengthened_as : (fact : Fact) → IsLengthened b.now.trees fact ↔ IsLengthened a.now.trees fact
-    lengthened_as = as_before b.now.trees a.now.trees (sym made.others.1.1.0) (sym made.others.1.0)
-
-    taken_over : IsTakenOver a.now.trees e.now.trees
-    taken_over = record {
-      versions = λ f.
-          let it = packed.lengthened f in
-          let was = lengthened_as f in (
-            (λ m. was.0 (it.0 (subst (λ rows. Member f (flat_map pack_facts rows)) same_packs m))),
-            (λ l. subst (λ rows. Member f (flat_map pack_facts rows)) (sym same_packs) (it.1 (was.1 l))),
-          );
-      others = same_others;
-    }
-
-    has_packed : HasPacked a.now.trees e.now.trees
-    has_packed = record {
-      lengthened = lengthened a.now.trees e.now.trees taken_over;
-      kept = kept a.now.trees e.now.trees taken_over first.sound;
-      said = λ row m. packed.said row (subst (Member row) same_packs m);
-      others = same_others;
-      version = raised.version;
-      unversioned = raises_others.1.1.0 (λ e. omega arith) ∙ cleared.none;
-      sound = subst (λ schema. IsSound schema e.now.trees) (raised.schema ∙ behind_d) raised.sound;
-    }
-
-  pub takes_on : MakesThere schema_1 schema_2 a b → GoesOn b c → GoesOn c d → GoesOn d e → TakesOn packing a e
-  takes_on one two three four = record {
-    was_open = λ clean o.
-        one.was_open (omega (arith, clean, bc, cd, de))
-        (two.was_open (omega (arith, clean, cd, de)) (three.was_open (omega (arith, clean, de)) (four.was_open clean o)));
-    is_open = λ clean o.
-        four.is_open clean (three.is_open (omega (arith, clean, de))
-        (two.is_open (omega (arith, clean, cd, de)) (one.is_open (omega (arith, clean, bc, cd, de)) o)));
-    inside = λ clean o.
-        four.inside clean (three.inside (omega (arith, clean, de))
-        (two.inside (omega (arith, clean, cd, de)) (one.inside (omega (arith, clean, bc, cd, de)) o)));
-    schema = λ clean o first. (raised clean o first).schema ∙ behind_d clean o first;
-    taken = has_packed;
+  taken_over : IsTakenOver a.now.trees e.now.trees
+  taken_over = record {
+    versions = λ f.
+        let it = packed.lengthened f in
+        let was = lengthened_as f in (
+          (λ m. was.0 (it.0 (subst (λ rows. Member f (flat_map pack_facts rows)) same_packs m))),
+          (λ l. subst (λ rows. Member f (flat_map pack_facts rows)) (sym same_packs) (it.1 (was.1 l))),
+        );
+    others = same_others;
   }
 
--- what two facts of an answer give together
-pub on_both : {A E : Type 0} (r : Result A E) (P Q R : Type 0) → (P → Q → R) → OnOk r P → OnOk r Q → OnOk r R
-on_both (Ok x) P Q R f p q = f p q
-on_both (Err e) P Q R f p q = tt
-
--- ---- no part commits anything
-module _ (a b c : State) (bc : doubt b.is_clean ≤ doubt c.is_clean)
-    (makes : HasCleanDisk b → IsTrue a.is_open → a.now.schema ≡ schema_1 → MakesPack a b) where
-  then_b : HasCleanDisk c → IsTrue a.is_open → IsFor packing a.now → IsThere b c
-  then_b clean o first =
-      let made = makes (omega (arith, clean, bc)) o first.store.schema in
-      there_2 b c clean made.is_open made.schema made.sound
-
-  pub keeps_two : (HasCleanDisk b → KeepsCommit a b) → (IsThere b c → KeepsCommit b c) → HasCleanDisk c → IsTrue a.is_open → IsFor packing a.now
-      → KeepsCommit a c
-  keeps_two one two clean o first = keeps_then a b c (one (omega (arith, clean, bc))) (two (then_b clean o first))
-
-  module _ (d : State) (cd : doubt c.is_clean ≤ doubt d.is_clean) (packs : IsThere b c → b.now.trees pack_tree ≡ [] → Packs b c) where
-    first_two : HasCleanDisk d → IsTrue a.is_open → IsFor packing a.now → MakesPack a b × Packs b c
-    first_two clean o first =
-        let made = makes (omega (arith, clean, bc, cd)) o first.store.schema in
-        (made, packs (then_b (omega (arith, clean, cd)) o first) made.none)
-
-    is_second : HasCleanDisk d → IsTrue a.is_open → IsFor packing a.now → c.now.schema ≡ schema_2
-    is_second clean o first = let it = first_two clean o first in it.1.changes.schema ∙ it.0.schema
-
-    then_c : HasCleanDisk d → IsTrue a.is_open → IsFor packing a.now → IsThere c d
-    then_c clean o first =
-        let it = first_two clean o first in
-        let packs = it.1.changes in
-        there_then b c d clean packs.is_open packs.schema packs.sound it.0.schema
-
-    pub keeps_three : (HasCleanDisk b → KeepsCommit a b) → (IsThere b c → KeepsCommit b c) → (IsThere c d → KeepsCommit c d) → HasCleanDisk d
-        → IsTrue a.is_open → IsFor packing a.now → KeepsCommit a d
-    keeps_three one two three clean o first =
-        let early : HasCleanDisk c = omega (arith, clean, cd) in
-        keeps_then a c d (keeps_two one two early o first) (three (then_c clean o first))
-
-    module _ (e : State) (de : doubt d.is_clean ≤ doubt e.is_clean) (clears : IsThere c d → Clears version_tree c d) where
-      then_d : HasCleanDisk e → IsTrue a.is_open → IsFor packing a.now → IsThere d e
-      then_d clean o first =
-          let early : HasCleanDisk d = omega (arith, clean, de) in
-          let cleared = clears (then_c early o first) in
-          there_then c d e clean cleared.is_open cleared.schema cleared.sound (is_second early o first)
-
-      pub keeps_four : (HasCleanDisk b → KeepsCommit a b) → (IsThere b c → KeepsCommit b c) → (IsThere c d → KeepsCommit c d)
-          → (IsThere d e → KeepsCommit d e) → HasCleanDisk e → IsTrue a.is_open → IsFor packing a.now → KeepsCommit a e
-      keeps_four one two three four clean o first =
-          let early : HasCleanDisk d = omega (arith, clean, de) in
-          keeps_then a d e (keeps_three one two three early o first) (four (then_d clean o first))
+  pub has_packed : HasPacked a.now.trees e.now.trees
+  has_packed = record {
+    lengthened = lengthened a.now.trees e.now.trees taken_over;
+    kept = kept a.now.trees e.now.trees taken_over first.sound;
+    said = λ row m. packed.said row (subst (Member row) same_packs m);
+    others = same_others;
+    version = raised.version;
+    unversioned = raises_others.1.1.0 (λ e. omega arith) ∙ cleared.none;
+    sound = subst (λ schema. IsSound schema e.now.trees) (raised.schema ∙ behind_d) raised.sound;
+  }

@@ -1,6 +1,6 @@
 -- What giving days the details of their streams does, in a transaction (profile).
-use Rattle.std.specs.Prelude.{◌≡◌, ◌↔◌, ℕ, List, [], ◌∷◌, Option, Some, None, All, IsTrue}
-use Rattle.sqlite.specs.State.{HasCleanDisk, State}
+use Rattle.std.specs.Prelude.{◌≡◌, ◌↔◌, ℕ, List, [], ◌∷◌, Option, Some, None, All}
+use Rattle.sqlite.specs.State.{State}
 use Rattle.sqlite.specs.declared.types.Value.TheVariants.{Null}
 use Rattle.sqlite_trees.specs.Tree.{Trees}
 use Rattle.sqlite_value.specs.Order.{Row}
@@ -14,10 +14,8 @@ use Rattle.mds_tables.specs.RowFacts.{natural_at, stream_in}
 use Rattle.mds_tables.specs.Stores.{Selects}
 use Rattle.mds_tables.specs.Tables.{detail_tree, head_tree}
 use Rattle.mds_inserts.specs.Parts.{detail_part}
-use Rattle.mds_inserts.specs.Writing.{Puts, PutsThere}
-use Rattle.mds_pack_rows.specs.DailyPutting.{IsThereDaily}
+use Rattle.mds_inserts.specs.Writing.{Puts}
 use Rattle.mds_pack_rows.specs.DailyTables.{schema_3}
-use Rattle.mds_pack_rows.specs.Putting.{GoesOn}
 use Rattle.mds_day_details.specs.Shown.{AreLatestFirst, IsDetailRow, shown_details}
 use Rattle.mds_migrate.specs.OldDetails.{IsGreatestOf}
 use Rattle.mds_migrate.specs.declared.dating.Latest.{Latest}
@@ -67,16 +65,11 @@ abbrev pub IsKnownOf : Trees → Option Latest → Stream → Type 0
 IsKnownOf trees None stream = ⊥
 IsKnownOf trees (Some latest) stream = AreGreatestOf trees stream latest.details
 
--- Under schema 3 the database is as it was, and nothing is committed.
-pub record Stays (old new : State) : Type 0 where
-  pub goes_on : GoesOn old new
-  pub now : HasCleanDisk new → IsTrue old.is_open → old.now.schema ≡ schema_3 → new.now ≡ old.now
-  pub committed : HasCleanDisk new → IsTrue old.is_open → old.now.schema ≡ schema_3 → new.committed ≡ old.committed
-
--- The greatest details of a stream were asked for, or known before.
+-- The greatest details of a stream were asked for, or known before. The database is as it was, and nothing is committed.
 pub record Knows (old new : State) (before after : Option Latest) (stream : Stream) : Type 0 where
-  pub stays : Stays old new
-  pub known : IsThereDaily old new → IsKnown old.now.trees before → IsKnown old.now.trees after × IsKnownOf old.now.trees after stream
+  pub now : new.now ≡ old.now
+  pub committed : new.committed ≡ old.committed
+  pub known : IsKnown old.now.trees before → IsKnown old.now.trees after × IsKnownOf old.now.trees after stream
 
 -- what is known, on a day
 abbrev pub known_on : Option Latest → ℕ → List Detail
@@ -86,8 +79,8 @@ known_on (Some latest) day = all_on latest.details day
 -- The details of the days that rows of heads show are put into mds_daydetail, as the transaction sees it.
 pub record DatesDays (old new : State) (before after : Option Latest) (heads : List Row) : Type 0 where
   pub details : List Detail
-  pub puts : PutsThere schema_3 detail_part old new details
-  pub are : IsThereDaily old new → IsKnown old.now.trees before → AreOfHeads old.now.trees heads details × IsKnown old.now.trees after
+  pub puts : Puts schema_3 detail_part old new details
+  pub are : IsKnown old.now.trees before → AreOfHeads old.now.trees heads details × IsKnown old.now.trees after
 
 -- All details of a stream, each as its moment and then the details. They are in order if the store can have written
 -- them.

@@ -14,12 +14,12 @@ use Rattle.mds_world.specs.World.{key_under}
 use Rattle.mds_world.specs.declared.facts.Head.{Head}
 use Rattle.mds_tables.specs.RowFacts.{head_fact, heads_in, natural_at, text_at}
 use Rattle.mds_tables.specs.Tables.{head_tree}
-use Rattle.mds_inserts.specs.Writing.{Puts, PutsThere}
+use Rattle.mds_inserts.specs.Writing.{Puts}
 use Rattle.mds_pack_rows.specs.DayRows.{shown_facts}
 use Rattle.mds_pack_rows.specs.FormLayout.{day_in}
 use Rattle.mds_pack_rows.specs.FormTables.{schema_4}
 use Rattle.mds_pack_rows.specs.PackFacts.{pack_versions}
-use Rattle.mds_form_rows.specs.FormPutting.{IsThereFormed, form_part}
+use Rattle.mds_form_rows.specs.FormPutting.{form_part}
 use Rattle.mds_migrate.specs.OldHeads.{updateless}
 
 -- the head of a day under the update that a row of mds_pack shows
@@ -35,7 +35,7 @@ SaysForm head pack =
 -- The heads of a day under the updates that rows of mds_pack show are put into mds_form, as the transaction sees it. Each row says a
 -- version of the day's length.
 pub record PutsForms (old new : State) (head : Head) (packs : List Row) : Type 0 where
-  pub puts : PutsThere schema_4 form_part old new (map (form_of head) packs)
+  pub puts : Puts schema_4 form_part old new (map (form_of head) packs)
   pub says : (pack : Row) → Member pack packs → SaysForm head pack
 
 -- mds_pack says a version under the head
@@ -53,8 +53,8 @@ AreFormsOf trees days heads = (head : Head) → Member head heads ↔ ((day : Ro
 -- The heads of the days that rows of heads show are put into mds_form, as the transaction sees it.
 pub record FormsDays (old new : State) (days : List Row) : Type 0 where
   pub heads : List Head
-  pub puts : PutsThere schema_4 form_part old new heads
-  pub are : IsThereFormed old new → AreFormsOf old.now.trees days heads
+  pub puts : Puts schema_4 form_part old new heads
+  pub are : AreFormsOf old.now.trees days heads
 
 -- a row of heads shows an earlier day than another one, by stream and then by day
 abbrev pub IsBefore : Row → Row → Type 0

@@ -1,5 +1,5 @@
 -- What a step of a migration leaves (profile): from schema 1 to schema 2, from there to schema 3, or from there to schema 4.
-use Rattle.std.specs.Prelude.{◌≡◌, ◌≢◌, ◌⊎◌, ◌↔◌, ℕ, List, [], ◌∷◌, drop, map, pos, IsTrue}
+use Rattle.std.specs.Prelude.{◌≡◌, ◌≢◌, ◌⊎◌, ◌↔◌, ℕ, List, [], ◌∷◌, drop, map, pos, IsTrue, Result}
 use Rattle.std.specs.List.Sorted.{IsPermutation}
 use Rattle.sqlite.specs.Effect.{Database}
 use Rattle.sqlite.specs.Schema.{Schema}
@@ -19,6 +19,7 @@ use Rattle.mds_world.specs.declared.facts.Key.{Key}
 use Rattle.mds_tables.specs.Layouts.{rows_layout, world_with}
 use Rattle.mds_tables.specs.Stores.{AreOpen, IsStore, versions_said}
 use Rattle.mds_tables.specs.Tables.{detail_table, detail_tree, event_table, head_table, head_tree, holiday_table, job_table, period_table, schema_1, version_tree}
+use Rattle.mds_inserts.specs.Frames.{Moves}
 use Rattle.mds_inserts.specs.Writing.{Keeps}
 use Rattle.mds_pack_rows.specs.DailyLayout.{world_3}
 use Rattle.mds_pack_rows.specs.DailyTables.{daydetail_table, schema_3}
@@ -111,13 +112,9 @@ module _ (step : Step) where
     pub store : step.From db
     pub sound : IsSound step.under db.trees
 
-  -- all parts of the step, one after another, as the transaction sees them
-  pub record TakesOn (old new : State) : Type 0 where
-    pub was_open : HasCleanDisk new → IsTrue new.is_open → IsTrue old.is_open
-    pub is_open : HasCleanDisk new → IsTrue old.is_open → IsTrue new.is_open
-    pub inside : HasCleanDisk new → IsTrue old.in_transaction → IsTrue new.in_transaction
-    pub schema : HasCleanDisk new → IsTrue old.is_open → IsFor old.now → new.now.schema ≡ step.to
-    pub taken : HasCleanDisk new → IsTrue old.is_open → IsFor old.now → step.Has old.now.trees new.now.trees
+  -- what all parts of the step do, one after another, as the transaction sees them
+  abbrev pub TakesOn : {X E : Type 0} → State → State → Result X E → Type 0
+  TakesOn old new result = Moves step.under step.to (λ _. IsFor old.now → step.Has old.now.trees new.now.trees) old new result
 
   -- the same, with a commit
   pub record Writes (old new : State) : Type 0 where

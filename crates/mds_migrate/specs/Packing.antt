@@ -9,7 +9,7 @@ use Rattle.mds_world.specs.Facts.{Fact}
 use Rattle.mds_world.specs.Facts.Fact.{HeadIs, VersionIs}
 use Rattle.mds_world.specs.Lists.{Member}
 use Rattle.mds_tables.specs.RowFacts.{head_fact, versions_in}
-use Rattle.mds_pack_rows.specs.Putting.{IsThere, PutsFacts}
+use Rattle.mds_pack_rows.specs.Putting.{ChangesPacks, NamesMore}
 use Rattle.mds_migrate.specs.OldLengths.{day_head, erased}
 
 -- the fact is a version of the day and of the length that a row of heads shows
@@ -25,5 +25,5 @@ AreOfDays trees heads facts =
 -- The versions of the days that rows of heads show are put into mds_pack, as the transaction sees it.
 pub record PacksDays (old new : State) (heads : List Row) : Type 0 where
   pub facts : List Fact
-  pub puts : PutsFacts old new facts
-  pub are : IsThere old new → AreOfDays old.now.trees heads facts
+  pub puts : ChangesPacks old new × NamesMore old.now.trees new.now.trees facts
+  pub are : AreOfDays old.now.trees heads facts

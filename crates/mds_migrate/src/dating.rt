@@ -1,15 +1,12 @@
 //! The step from schema 2 to schema 3: each known day gets the details that its stream has.
 
-ghost use Rattle.std.specs.Prelude.{◌≡◌, [], ◌∷◌, IfOk, IsTrue, OnOk};
+ghost use Rattle.std.specs.Prelude.{◌≡◌, [], ◌∷◌, IfOk, IsTrue};
 ghost use Rattle.sqlite.specs.Held.{state};
-ghost use Rattle.sqlite.specs.State.{HasCleanDisk, KeepsCommit, Survives};
-ghost use Rattle.mds_tables.specs.Tables.{More, schema_with};
+ghost use Rattle.sqlite.specs.State.{IsUnchanged};
+ghost use Rattle.mds_inserts.specs.Frames.{Frames};
 ghost use Rattle.mds_inserts.specs.Parts.{detail_part};
-ghost use Rattle.mds_inserts.specs.Writing.{PutsThere};
-ghost use Rattle.mds_pack_rows.specs.DailyPutting.{IsThereDaily};
+ghost use Rattle.mds_inserts.specs.Writing.{Puts};
 ghost use Rattle.mds_pack_rows.specs.DailyTables.{schema_3};
-ghost use Rattle.mds_pack_rows.specs.PackTables.{packs_then};
-ghost use Rattle.mds_pack_rows.specs.Putting.{FindsThere, GoesOn};
 ghost use Rattle.mds_migrate.specs.Dating.{Dates, DatesDays, IsLatest, IsOf, Knows, SaysDetails, SaysFirst, ShowsDetailsOf, known_on};
 ghost use Rattle.mds_migrate.specs.Migrated.{dating};
 
@@ -17,13 +14,15 @@ use crate::packing::all_heads;
 use crate::statements::{clear_details, raise_version};
 use crate::step::Stage;
 use mds_day_details::{are_detail_rows, details_at};
+use mds_inserts::put_each;
 use mds_keeper::{DetailDays, Unavailable};
-use mds_pack_rows::{make_daydetail, put_on};
+use mds_pack_rows::{DetailTable, make_table};
 use mds_selects::{head_in, moment_at};
 use mds_tables::{or_unavailable, stream_cells, told};
 use mds_terms::{Day, Stream};
 use sqlite::{Alter, Row, Transaction};
 use std::alloc::Global;
+use std::slice::from_ref;
 
 /// From details of streams to those of days.
 pub(crate) struct Dating;
@@ -33,7 +32,7 @@ impl Stage for Dating {
 
     fn take_on<S: Alter>(alloc: Global, tx: &mut Transaction<'_, S>) -> Result<(), Unavailable> {
         // decides: what does a step of a migration do?
-        or_unavailable(make_daydetail(tx))?;
+        or_unavailable(make_table(tx, 9))?;
         date_days(alloc, tx)?;
         clear_details(tx)?;
         raise_version(tx, 3)
@@ -43,12 +42,7 @@ impl Stage for Dating {
 /// Puts the details of all days. Unavailable if there is a row that the store didn't write.
 fn date_days<S: Alter>(alloc: Global, tx: &mut Transaction<'_, S>) -> Result<(), Unavailable>
     ensures same_reference { tx.new.conn.ghost_name ≡ tx.old.conn.ghost_name }
-    ensures goes_on { OnOk result (GoesOn (state S.Store tx.old.conn.now) (state S.Store tx.new.conn.now)) }
-    ensures ok { OnOk result (IsThereDaily (state S.Store tx.old.conn.now) (state S.Store tx.new.conn.now)
-        → Dates (state S.Store tx.old.conn.now) (state S.Store tx.new.conn.now)) }
-    ensures kept { IsThereDaily (state S.Store tx.old.conn.now) (state S.Store tx.new.conn.now)
-        → KeepsCommit (state S.Store tx.old.conn.now) (state S.Store tx.new.conn.now) }
-    ensures survives { Survives (state S.Store tx.old.conn.now) (state S.Store tx.new.conn.now) (λ _. ⊥) }
+    ensures frames { Frames schema_3 (λ _. Dates (state S.Store tx.old.conn.now) (state S.Store tx.new.conn.now)) (state S.Store tx.old.conn.now) (state S.Store tx.new.conn.now) result }
 {
     let heads = all_heads(tx)?;
     let mut known = None;
@@ -74,15 +68,12 @@ fn date_day<S: Alter>(
     row: &Row,
 ) -> Result<(), Unavailable>
     ensures same_reference { tx.new.conn.ghost_name ≡ tx.old.conn.ghost_name }
-    ensures ok { OnOk result (DatesDays (state S.Store tx.old.conn.now) (state S.Store tx.new.conn.now) known.old known.new (row.now ∷ [])) }
-    ensures kept { IsThereDaily (state S.Store tx.old.conn.now) (state S.Store tx.new.conn.now)
-        → KeepsCommit (state S.Store tx.old.conn.now) (state S.Store tx.new.conn.now) }
-    ensures survives { Survives (state S.Store tx.old.conn.now) (state S.Store tx.new.conn.now) (λ _. ⊥) }
+    ensures frames { Frames schema_3 (λ _. DatesDays (state S.Store tx.old.conn.now) (state S.Store tx.new.conn.now) known.old known.new (row.now ∷ [])) (state S.Store tx.old.conn.now) (state S.Store tx.new.conn.now) result }
 {
     // decides: which details does a migration give a day? (definition: Becomes in mds_migrate/specs/OldDetails.antt)
     let head = told(head_in(row))?;
     know(alloc, tx, known, head.stream)?;
-    put_known(tx, known, head.day)
+    put_known(alloc, tx, known, head.day)
 }
 
 /// Whether what is known is of this stream.
@@ -103,10 +94,7 @@ fn know<S: Alter>(
     stream: Stream,
 ) -> Result<(), Unavailable>
     ensures same_reference { tx.new.conn.ghost_name ≡ tx.old.conn.ghost_name }
-    ensures ok { OnOk result (Knows (state S.Store tx.old.conn.now) (state S.Store tx.new.conn.now) known.old known.new stream) }
-    ensures kept { IsThereDaily (state S.Store tx.old.conn.now) (state S.Store tx.new.conn.now)
-        → KeepsCommit (state S.Store tx.old.conn.now) (state S.Store tx.new.conn.now) }
-    ensures survives { Survives (state S.Store tx.old.conn.now) (state S.Store tx.new.conn.now) (λ _. ⊥) }
+    ensures frames { Frames schema_3 (λ _. Knows (state S.Store tx.old.conn.now) (state S.Store tx.new.conn.now) known.old known.new stream) (state S.Store tx.old.conn.now) (state S.Store tx.new.conn.now) result }
 {
     if is_of(known, &stream) {
         return Ok(());
@@ -118,18 +106,22 @@ fn know<S: Alter>(
 
 /// Puts what is known on a day.
 fn put_known<S: Alter>(
+    alloc: Global,
     tx: &mut Transaction<'_, S>,
     known: &Option<Latest>,
     day: Day,
 ) -> Result<(), Unavailable>
     ensures same_reference { tx.new.conn.ghost_name ≡ tx.old.conn.ghost_name }
-    ensures ok { OnOk result (PutsThere schema_3 detail_part (state S.Store tx.old.conn.now) (state S.Store tx.new.conn.now) (known_on known.now day)) }
-    ensures kept { HasCleanDisk (state S.Store tx.new.conn.now) → KeepsCommit (state S.Store tx.old.conn.now) (state S.Store tx.new.conn.now) }
-    ensures survives { Survives (state S.Store tx.old.conn.now) (state S.Store tx.new.conn.now) (λ _. ⊥) }
+    ensures frames { Frames schema_3 (λ _. Puts schema_3 detail_part (state S.Store tx.old.conn.now) (state S.Store tx.new.conn.now) (known_on known.now day)) (state S.Store tx.old.conn.now) (state S.Store tx.new.conn.now) result }
 {
     match known {
         Some(latest) => match &latest.details {
-            Some(details) => put_on(tx, details, day),
+            Some(details) => or_unavailable(put_each::<DetailDays, Day, DetailTable, S>(
+                alloc,
+                tx,
+                details,
+                from_ref(&day),
+            )),
             None => Ok(()),
         },
         None => Ok(()),
@@ -143,14 +135,8 @@ fn greatest_of<S: Alter>(
     stream: Stream,
 ) -> Result<Latest, Unavailable>
     ensures same_reference { tx.new.conn.ghost_name ≡ tx.old.conn.ghost_name }
-    ensures ok { HasCleanDisk (state S.Store tx.new.conn.now)
-        → IfOk result (λ latest. FindsThere (state S.Store tx.old.conn.now) (state S.Store tx.new.conn.now) (λ trees. IsLatest trees latest)) }
     ensures of { IfOk result (λ latest. latest.stream ≡ stream) }
-    ensures goes_on { OnOk result (GoesOn (state S.Store tx.old.conn.now) (state S.Store tx.new.conn.now)) }
-    ensures kept { HasCleanDisk (state S.Store tx.new.conn.now) → (rest : More)
-        → (state S.Store tx.old.conn.now).now.schema ≡ schema_with (packs_then rest)
-        → KeepsCommit (state S.Store tx.old.conn.now) (state S.Store tx.new.conn.now) }
-    ensures survives { Survives (state S.Store tx.old.conn.now) (state S.Store tx.new.conn.now) (λ _. ⊥) }
+    ensures frames { Frames schema_3 (λ latest. IsUnchanged (state S.Store tx.old.conn.now) (state S.Store tx.new.conn.now) × IsLatest (state S.Store tx.old.conn.now).now.trees latest) (state S.Store tx.old.conn.now) (state S.Store tx.new.conn.now) result }
 {
     let rows = details_rows(tx, &stream)?;
     if !are_detail_rows(rows.as_slice()) {
@@ -176,13 +162,8 @@ fn details_rows<S: Alter>(
     stream: &Stream,
 ) -> Result<Vec<Row>, Unavailable>
     ensures same_reference { tx.new.conn.ghost_name ≡ tx.old.conn.ghost_name }
-    ensures ok { HasCleanDisk (state S.Store tx.new.conn.now)
-        → IfOk result (λ rows. FindsThere (state S.Store tx.old.conn.now) (state S.Store tx.new.conn.now) (λ trees. ShowsDetailsOf stream.now trees rows.items)) }
-    ensures goes_on { OnOk result (GoesOn (state S.Store tx.old.conn.now) (state S.Store tx.new.conn.now)) }
-    ensures kept { HasCleanDisk (state S.Store tx.new.conn.now) → (rest : More)
-        → (state S.Store tx.old.conn.now).now.schema ≡ schema_with (packs_then rest)
-        → KeepsCommit (state S.Store tx.old.conn.now) (state S.Store tx.new.conn.now) }
-    ensures survives { Survives (state S.Store tx.old.conn.now) (state S.Store tx.new.conn.now) (λ _. ⊥) }
+    ensures frames { Frames schema_3 (λ rows. IsUnchanged (state S.Store tx.old.conn.now) (state S.Store tx.new.conn.now) × ShowsDetailsOf stream.now (state S.Store tx.old.conn.now).now.trees rows.items)
+        (state S.Store tx.old.conn.now) (state S.Store tx.new.conn.now) result }
 {
     or_unavailable(tx.query_all(
         "SELECT moment, configuration, register, datastream, meter, next FROM mds_detail WHERE nmi = ?1 AND suffix = ?2 ORDER BY moment DESC, configuration DESC, register DESC, datastream DESC, meter DESC, next DESC",

@@ -3,22 +3,23 @@
 ghost use Rattle.std.specs.Prelude.{◌≡◌, ◌∷◌, [], IfOk, IsTrue, OnOk};
 ghost use Rattle.std.specs.List.{AllPairs};
 ghost use Rattle.sqlite.specs.Held.{state};
-ghost use Rattle.sqlite.specs.State.{HasCleanDisk, KeepsCommit, Survives};
-ghost use Rattle.mds_pack_rows.specs.Putting.{GoesOn};
-ghost use Rattle.mds_form_rows.specs.FormPutting.{IsThereFormed};
+ghost use Rattle.mds_inserts.specs.Frames.{Frames};
+ghost use Rattle.mds_pack_rows.specs.FormTables.{schema_4};
 ghost use Rattle.mds_migrate.specs.Forming.{Forms, FormsDays, IsBefore, PutsForms, SaysForm, form_of};
 ghost use Rattle.mds_migrate.specs.Migrated.{forming};
 
 use crate::packing::all_heads;
 use crate::statements::{clear_lengths, raise_version};
 use crate::step::Stage;
-use mds_form_rows::{make_form, put_form};
+use mds_form_rows::FormTable;
+use mds_inserts::put_each;
 use mds_keeper::{Head, StreamDay, Unavailable};
-use mds_pack_rows::{packs_of_day, readings_for};
+use mds_pack_rows::{make_table, packs_of_day, readings_for};
 use mds_selects::{head_in, moment_at};
 use mds_tables::{or_unavailable, told};
 use sqlite::{Alter, Row, Transaction};
 use std::alloc::Global;
+use std::slice::from_ref;
 
 /// From a head of each day to one of each update of it.
 pub(crate) struct Forming;
@@ -28,7 +29,7 @@ impl Stage for Forming {
 
     fn take_on<S: Alter>(alloc: Global, tx: &mut Transaction<'_, S>) -> Result<(), Unavailable> {
         // decides: what does a step of a migration do?
-        or_unavailable(make_form(tx))?;
+        or_unavailable(make_table(tx, 10))?;
         form_days(alloc, tx)?;
         clear_lengths(tx)?;
         raise_version(tx, 4)
@@ -39,12 +40,7 @@ impl Stage for Forming {
 /// a body that isn't one of its day's length with a reading.
 fn form_days<S: Alter>(alloc: Global, tx: &mut Transaction<'_, S>) -> Result<(), Unavailable>
     ensures same_reference { tx.new.conn.ghost_name ≡ tx.old.conn.ghost_name }
-    ensures goes_on { OnOk result (GoesOn (state S.Store tx.old.conn.now) (state S.Store tx.new.conn.now)) }
-    ensures ok { OnOk result (IsThereFormed (state S.Store tx.old.conn.now) (state S.Store tx.new.conn.now)
-        → Forms (state S.Store tx.old.conn.now) (state S.Store tx.new.conn.now)) }
-    ensures kept { IsThereFormed (state S.Store tx.old.conn.now) (state S.Store tx.new.conn.now)
-        → KeepsCommit (state S.Store tx.old.conn.now) (state S.Store tx.new.conn.now) }
-    ensures survives { Survives (state S.Store tx.old.conn.now) (state S.Store tx.new.conn.now) (λ _. ⊥) }
+    ensures frames { Frames schema_4 (λ _. Forms (state S.Store tx.old.conn.now) (state S.Store tx.new.conn.now)) (state S.Store tx.old.conn.now) (state S.Store tx.new.conn.now) result }
 {
     let days = all_heads(tx)?;
     let are_sorted = are_in_order(days.as_slice());
@@ -98,10 +94,7 @@ fn form_day<S: Alter>(
     row: &Row,
 ) -> Result<(), Unavailable>
     ensures same_reference { tx.new.conn.ghost_name ≡ tx.old.conn.ghost_name }
-    ensures ok { OnOk result (FormsDays (state S.Store tx.old.conn.now) (state S.Store tx.new.conn.now) (row.now ∷ [])) }
-    ensures kept { IsThereFormed (state S.Store tx.old.conn.now) (state S.Store tx.new.conn.now)
-        → KeepsCommit (state S.Store tx.old.conn.now) (state S.Store tx.new.conn.now) }
-    ensures survives { Survives (state S.Store tx.old.conn.now) (state S.Store tx.new.conn.now) (λ _. ⊥) }
+    ensures frames { Frames schema_4 (λ _. FormsDays (state S.Store tx.old.conn.now) (state S.Store tx.new.conn.now) (row.now ∷ [])) (state S.Store tx.old.conn.now) (state S.Store tx.new.conn.now) result }
 {
     let head = told(head_in(row))?;
     let packs = packs_of_day(tx, &head.stream, head.day)?;
@@ -118,13 +111,11 @@ fn form_each<S: Alter>(
     packs: &[Row],
 ) -> Result<(), Unavailable>
     ensures same_reference { tx.new.conn.ghost_name ≡ tx.old.conn.ghost_name }
-    ensures ok { OnOk result (PutsForms (state S.Store tx.old.conn.now) (state S.Store tx.new.conn.now) head.now packs.now) }
-    ensures kept { HasCleanDisk (state S.Store tx.new.conn.now) → KeepsCommit (state S.Store tx.old.conn.now) (state S.Store tx.new.conn.now) }
-    ensures survives { Survives (state S.Store tx.old.conn.now) (state S.Store tx.new.conn.now) (λ _. ⊥) }
+    ensures frames { Frames schema_4 (λ _. PutsForms (state S.Store tx.old.conn.now) (state S.Store tx.new.conn.now) head.now packs.now) (state S.Store tx.old.conn.now) (state S.Store tx.new.conn.now) result }
 {
     for pack in packs {
         let form = form_in(alloc, head, pack)?;
-        put_form(tx, &form)?;
+        or_unavailable(put_each::<(), Head, FormTable, S>(alloc, tx, &(), from_ref(&form)))?;
     }
     Ok(())
 }

@@ -16,11 +16,9 @@ use crate::observing::{StepObserver, Unobserved};
 use crate::outcome::{MigrateFault, Migrated};
 use crate::packing::Packing;
 use crate::step::take_step;
-use mds_form_rows::has_schema_4;
-use mds_pack_rows::{has_schema_2, has_schema_3};
+use mds_pack_rows::has_schema;
 use mds_pack_store::{are_daily, are_formed, are_packed};
 use mds_selects::is_version;
-use mds_tables::has_schema_1;
 use sqlite::{Alter, Connection};
 use std::alloc::Global;
 
@@ -95,17 +93,21 @@ fn next_step<S: Alter, O: StepObserver>(
         return Err(MigrateFault::Unavailable);
     }
     // decides: which step does a migration take?
-    if has_schema_4(conn.schema()) {
+    let is_fourth = has_schema(conn.schema(), 4);
+    if is_fourth {
         return if_current(conn);
     }
-    if has_schema_3(conn.schema()) {
+    let is_third = has_schema(conn.schema(), 3);
+    if is_third {
         return if_daily(alloc, conn, observer);
     }
-    if has_schema_2(conn.schema()) {
+    let is_second = has_schema(conn.schema(), 2);
+    if is_second {
         return if_packed(alloc, conn, observer);
     }
     // decides: U3: a database to migrate is of none of the schemas
-    if !has_schema_1(conn.schema()) {
+    let is_first = has_schema(conn.schema(), 1);
+    if !is_first {
         return Err(MigrateFault::OtherSchema);
     }
     if_first(alloc, conn, observer)

@@ -1,21 +1,21 @@
 //! The step from schema 1 to schema 2: the versions of all days are packed.
 
-ghost use Rattle.std.specs.Prelude.{◌≡◌, [], ◌∷◌, IfOk, OnOk};
+ghost use Rattle.std.specs.Prelude.{◌≡◌, [], ◌∷◌};
 ghost use Rattle.sqlite.specs.Held.{state};
-ghost use Rattle.sqlite.specs.State.{HasCleanDisk, KeepsCommit, Survives};
+ghost use Rattle.sqlite.specs.State.{IsUnchanged};
 ghost use Rattle.mds_tables.specs.Cells.{day_cells as day_columns};
 ghost use Rattle.mds_tables.specs.Stores.{Selects};
 ghost use Rattle.mds_tables.specs.Tables.{More, head_columns, head_tree, schema_with, version_columns, version_tree};
+ghost use Rattle.mds_inserts.specs.Frames.{Frames};
 ghost use Rattle.mds_migrate.specs.Migrated.{packing};
 ghost use Rattle.mds_migrate.specs.Migrating.{Packs};
 ghost use Rattle.mds_migrate.specs.Packing.{PacksDays};
-ghost use Rattle.mds_pack_rows.specs.PackTables.{pack_tree, packs_then};
-ghost use Rattle.mds_pack_rows.specs.Putting.{FindsThere, GoesOn, IsThere};
+ghost use Rattle.mds_pack_rows.specs.PackTables.{pack_tree, packs_then, schema_2};
 
 use crate::statements::{clear_versions, raise_version};
 use crate::step::Stage;
 use mds_keeper::{DayVersions, Unavailable, VersionRows};
-use mds_pack_rows::{make_pack, put_day};
+use mds_pack_rows::{make_table, put_day};
 use mds_selects::{all_versions, head_in};
 use mds_tables::{day_cells, or_unavailable, told};
 use mds_terms::{Day, Stream};
@@ -30,7 +30,7 @@ impl Stage for Packing {
 
     fn take_on<S: Alter>(alloc: Global, tx: &mut Transaction<'_, S>) -> Result<(), Unavailable> {
         // decides: what does a step of a migration do?
-        or_unavailable(make_pack(tx))?;
+        or_unavailable(make_table(tx, 8))?;
         pack_days(alloc, tx)?;
         clear_versions(tx)?;
         raise_version(tx, 2)
@@ -44,12 +44,7 @@ pub(crate) fn pack_days<S: Alter>(
     tx: &mut Transaction<'_, S>,
 ) -> Result<(), Unavailable>
     ensures same_reference { tx.new.conn.ghost_name ≡ tx.old.conn.ghost_name }
-    ensures goes_on { OnOk result (GoesOn (state S.Store tx.old.conn.now) (state S.Store tx.new.conn.now)) }
-    ensures ok { OnOk result (IsThere (state S.Store tx.old.conn.now) (state S.Store tx.new.conn.now)
-        → (state S.Store tx.old.conn.now).now.trees pack_tree ≡ [] → Packs (state S.Store tx.old.conn.now) (state S.Store tx.new.conn.now)) }
-    ensures kept { IsThere (state S.Store tx.old.conn.now) (state S.Store tx.new.conn.now)
-        → KeepsCommit (state S.Store tx.old.conn.now) (state S.Store tx.new.conn.now) }
-    ensures survives { Survives (state S.Store tx.old.conn.now) (state S.Store tx.new.conn.now) (λ _. ⊥) }
+    ensures frames { Frames schema_2 (λ _. (state S.Store tx.old.conn.now).now.trees pack_tree ≡ [] → Packs (state S.Store tx.old.conn.now) (state S.Store tx.new.conn.now)) (state S.Store tx.old.conn.now) (state S.Store tx.new.conn.now) result }
 {
     let heads = all_heads(tx)?;
     for row in heads.as_slice() {
@@ -61,13 +56,8 @@ pub(crate) fn pack_days<S: Alter>(
 /// All heads, in the order of their days, stream by stream.
 pub(crate) fn all_heads<S: Alter>(tx: &mut Transaction<'_, S>) -> Result<Vec<Row>, Unavailable>
     ensures same_reference { tx.new.conn.ghost_name ≡ tx.old.conn.ghost_name }
-    ensures ok { HasCleanDisk (state S.Store tx.new.conn.now)
-        → IfOk result (λ rows. FindsThere (state S.Store tx.old.conn.now) (state S.Store tx.new.conn.now)
-        (λ trees. Selects head_tree [] head_columns trees rows.items)) }
-    ensures goes_on { OnOk result (GoesOn (state S.Store tx.old.conn.now) (state S.Store tx.new.conn.now)) }
-    ensures kept { HasCleanDisk (state S.Store tx.new.conn.now) → (rest : More) → (state S.Store tx.old.conn.now).now.schema ≡ schema_with (packs_then rest)
-        → KeepsCommit (state S.Store tx.old.conn.now) (state S.Store tx.new.conn.now) }
-    ensures survives { Survives (state S.Store tx.old.conn.now) (state S.Store tx.new.conn.now) (λ _. ⊥) }
+    ensures frames { (more : More) → Frames (schema_with (packs_then more)) (λ rows. IsUnchanged (state S.Store tx.old.conn.now) (state S.Store tx.new.conn.now)
+        × Selects head_tree [] head_columns (state S.Store tx.old.conn.now).now.trees rows.items) (state S.Store tx.old.conn.now) (state S.Store tx.new.conn.now) result }
 {
     or_unavailable(tx.query_all(
         "SELECT nmi, suffix, day, length, unit FROM mds_head ORDER BY nmi, suffix, day",
@@ -82,13 +72,8 @@ fn version_rows<S: Alter>(
     day: Day,
 ) -> Result<Vec<Row>, Unavailable>
     ensures same_reference { tx.new.conn.ghost_name ≡ tx.old.conn.ghost_name }
-    ensures ok { HasCleanDisk (state S.Store tx.new.conn.now)
-        → IfOk result (λ rows. FindsThere (state S.Store tx.old.conn.now) (state S.Store tx.new.conn.now)
-        (λ trees. Selects version_tree (day_columns stream.now day) version_columns trees rows.items)) }
-    ensures goes_on { OnOk result (GoesOn (state S.Store tx.old.conn.now) (state S.Store tx.new.conn.now)) }
-    ensures kept { HasCleanDisk (state S.Store tx.new.conn.now) → (rest : More) → (state S.Store tx.old.conn.now).now.schema ≡ schema_with (packs_then rest)
-        → KeepsCommit (state S.Store tx.old.conn.now) (state S.Store tx.new.conn.now) }
-    ensures survives { Survives (state S.Store tx.old.conn.now) (state S.Store tx.new.conn.now) (λ _. ⊥) }
+    ensures frames { Frames schema_2 (λ rows. IsUnchanged (state S.Store tx.old.conn.now) (state S.Store tx.new.conn.now)
+        × Selects version_tree (day_columns stream.now day) version_columns (state S.Store tx.old.conn.now).now.trees rows.items) (state S.Store tx.old.conn.now) (state S.Store tx.new.conn.now) result }
 {
     or_unavailable(tx.query_all(
         "SELECT nmi, suffix, day, slot, moment, quality, code, note, amount FROM mds_version WHERE nmi = ?1 AND suffix = ?2 AND day = ?3 ORDER BY moment",
@@ -103,10 +88,7 @@ fn pack_day_of<S: Alter>(
     row: &Row,
 ) -> Result<(), Unavailable>
     ensures same_reference { tx.new.conn.ghost_name ≡ tx.old.conn.ghost_name }
-    ensures ok { OnOk result (PacksDays (state S.Store tx.old.conn.now) (state S.Store tx.new.conn.now) (row.now ∷ [])) }
-    ensures kept { IsThere (state S.Store tx.old.conn.now) (state S.Store tx.new.conn.now)
-        → KeepsCommit (state S.Store tx.old.conn.now) (state S.Store tx.new.conn.now) }
-    ensures survives { Survives (state S.Store tx.old.conn.now) (state S.Store tx.new.conn.now) (λ _. ⊥) }
+    ensures frames { Frames schema_2 (λ _. PacksDays (state S.Store tx.old.conn.now) (state S.Store tx.new.conn.now) (row.now ∷ [])) (state S.Store tx.old.conn.now) (state S.Store tx.new.conn.now) result }
 {
     let head = told(head_in(row))?;
     let rows = version_rows(tx, &head.stream, head.day)?;

@@ -1,13 +1,16 @@
 //! The statements that end a schema.
 
-ghost use Rattle.std.specs.Prelude.{◌≡◌, ◌≢◌, ℤ, [], ◌∷◌, OnErr, OnOk};
+ghost use Rattle.std.specs.Prelude.{◌≡◌, ◌≢◌, [], ◌∷◌, OnErr, OnOk};
 ghost use Rattle.sqlite.specs.Held.{state};
 ghost use Rattle.sqlite.specs.State.{HasCleanDisk, KeepsCommit, Survives};
 ghost use Rattle.sqlite.specs.Values.{bound};
 ghost use Rattle.sqlite.specs.declared.types.Value.TheVariants.{Int};
-ghost use Rattle.mds_tables.specs.Stores.{versions_said};
-ghost use Rattle.mds_tables.specs.Tables.{detail_tree, version_tree};
+ghost use Rattle.mds_tables.specs.Tables.{detail_tree, schema_with, version_tree};
+ghost use Rattle.mds_inserts.specs.Frames.{Frames};
 ghost use Rattle.mds_migrate.specs.Migrating.{Clears, ClearsLengths, Raises, RaisesRow};
+ghost use Rattle.mds_pack_rows.specs.DailyTables.{schema_3};
+ghost use Rattle.mds_pack_rows.specs.FormTables.{schema_4};
+ghost use Rattle.mds_pack_rows.specs.PackTables.{Behind, packs_then, schema_2};
 ghost use Rattle.mds_pack_rows.specs.Putting.{GoesOn, IsThere};
 
 use mds_keeper::Unavailable;
@@ -19,12 +22,7 @@ use sqlite::{Alter, Row, Transaction};
 /// Removes all rows of mds_version. Unavailable if one is left.
 pub(crate) fn clear_versions<S: Alter>(tx: &mut Transaction<'_, S>) -> Result<(), Unavailable>
     ensures same_reference { tx.new.conn.ghost_name ≡ tx.old.conn.ghost_name }
-    ensures goes_on { OnOk result (GoesOn (state S.Store tx.old.conn.now) (state S.Store tx.new.conn.now)) }
-    ensures ok { OnOk result (IsThere (state S.Store tx.old.conn.now) (state S.Store tx.new.conn.now)
-        → Clears version_tree (state S.Store tx.old.conn.now) (state S.Store tx.new.conn.now)) }
-    ensures kept { IsThere (state S.Store tx.old.conn.now) (state S.Store tx.new.conn.now)
-        → KeepsCommit (state S.Store tx.old.conn.now) (state S.Store tx.new.conn.now) }
-    ensures survives { Survives (state S.Store tx.old.conn.now) (state S.Store tx.new.conn.now) (λ _. ⊥) }
+    ensures frames { Frames schema_2 (λ _. Clears version_tree (state S.Store tx.old.conn.now) (state S.Store tx.new.conn.now)) (state S.Store tx.old.conn.now) (state S.Store tx.new.conn.now) result }
 {
     or_unavailable(tx.execute("DELETE FROM mds_version", &[]))?;
     let left = or_unavailable(tx.query_all("SELECT slot FROM mds_version", &[]))?;
@@ -34,12 +32,7 @@ pub(crate) fn clear_versions<S: Alter>(tx: &mut Transaction<'_, S>) -> Result<()
 /// Removes all rows of mds_detail. Unavailable if one is left.
 pub(crate) fn clear_details<S: Alter>(tx: &mut Transaction<'_, S>) -> Result<(), Unavailable>
     ensures same_reference { tx.new.conn.ghost_name ≡ tx.old.conn.ghost_name }
-    ensures goes_on { OnOk result (GoesOn (state S.Store tx.old.conn.now) (state S.Store tx.new.conn.now)) }
-    ensures ok { OnOk result (IsThere (state S.Store tx.old.conn.now) (state S.Store tx.new.conn.now)
-        → Clears detail_tree (state S.Store tx.old.conn.now) (state S.Store tx.new.conn.now)) }
-    ensures kept { IsThere (state S.Store tx.old.conn.now) (state S.Store tx.new.conn.now)
-        → KeepsCommit (state S.Store tx.old.conn.now) (state S.Store tx.new.conn.now) }
-    ensures survives { Survives (state S.Store tx.old.conn.now) (state S.Store tx.new.conn.now) (λ _. ⊥) }
+    ensures frames { Frames schema_3 (λ _. Clears detail_tree (state S.Store tx.old.conn.now) (state S.Store tx.new.conn.now)) (state S.Store tx.old.conn.now) (state S.Store tx.new.conn.now) result }
 {
     or_unavailable(tx.execute("DELETE FROM mds_detail", &[]))?;
     let left = or_unavailable(tx.query_all("SELECT moment FROM mds_detail", &[]))?;
@@ -61,29 +54,19 @@ fn none_left(rows: &[Row]) -> Result<(), Unavailable>
 /// Sets the length in each row of mds_head to 0.
 pub(crate) fn clear_lengths<S: Alter>(tx: &mut Transaction<'_, S>) -> Result<(), Unavailable>
     ensures same_reference { tx.new.conn.ghost_name ≡ tx.old.conn.ghost_name }
-    ensures goes_on { OnOk result (GoesOn (state S.Store tx.old.conn.now) (state S.Store tx.new.conn.now)) }
-    ensures ok { OnOk result (IsThere (state S.Store tx.old.conn.now) (state S.Store tx.new.conn.now)
-        → ClearsLengths (state S.Store tx.old.conn.now) (state S.Store tx.new.conn.now)) }
-    ensures kept { HasCleanDisk (state S.Store tx.new.conn.now) → KeepsCommit (state S.Store tx.old.conn.now) (state S.Store tx.new.conn.now) }
-    ensures survives { Survives (state S.Store tx.old.conn.now) (state S.Store tx.new.conn.now) (λ _. ⊥) }
+    ensures frames { Frames schema_4 (λ _. ClearsLengths (state S.Store tx.old.conn.now) (state S.Store tx.new.conn.now)) (state S.Store tx.old.conn.now) (state S.Store tx.new.conn.now) result }
 {
     or_unavailable(tx.execute("UPDATE mds_head SET length = 0", &[]))?;
     Ok(())
 }
 
-/// Makes mds_schema say this number, if it says one. Unavailable unless it has just one row.
+/// Makes mds_schema say this number. Unavailable unless it has just one row.
 pub(crate) fn raise_version<S: Alter>(
     tx: &mut Transaction<'_, S>,
     number: i64,
 ) -> Result<(), Unavailable>
     ensures same_reference { tx.new.conn.ghost_name ≡ tx.old.conn.ghost_name }
-    ensures goes_on { OnOk result (GoesOn (state S.Store tx.old.conn.now) (state S.Store tx.new.conn.now)) }
-    ensures ok { OnOk result (IsThere (state S.Store tx.old.conn.now) (state S.Store tx.new.conn.now)
-        → (said : ℤ) → versions_said (state S.Store tx.old.conn.now).now.trees ≡ said ∷ []
-        → Raises number (state S.Store tx.old.conn.now) (state S.Store tx.new.conn.now)) }
-    ensures kept { IsThere (state S.Store tx.old.conn.now) (state S.Store tx.new.conn.now)
-        → KeepsCommit (state S.Store tx.old.conn.now) (state S.Store tx.new.conn.now) }
-    ensures survives { Survives (state S.Store tx.old.conn.now) (state S.Store tx.new.conn.now) (λ _. ⊥) }
+    ensures frames { (rest : Behind) → Frames (schema_with (packs_then rest.more)) (λ _. Raises number (state S.Store tx.old.conn.now) (state S.Store tx.new.conn.now)) (state S.Store tx.old.conn.now) (state S.Store tx.new.conn.now) result }
 {
     let rows = or_unavailable(tx.query_all("SELECT rowid FROM mds_schema", &[]))?;
     match rows.as_slice() {

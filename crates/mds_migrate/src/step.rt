@@ -19,10 +19,7 @@ pub(crate) trait Stage {
     /// Does all parts of it in a transaction.
     fn take_on<S: Alter>(alloc: Global, tx: &mut Transaction<'_, S>) -> Result<(), Unavailable>
         ensures same_reference { tx.new.conn.ghost_name ≡ tx.old.conn.ghost_name }
-        ensures ok { OnOk result (TakesOn step (state S.Store tx.old.conn.now) (state S.Store tx.new.conn.now)) }
-        ensures kept { HasCleanDisk (state S.Store tx.new.conn.now) → IsTrue (state S.Store tx.old.conn.now).is_open
-            → IsFor step (state S.Store tx.old.conn.now).now → KeepsCommit (state S.Store tx.old.conn.now) (state S.Store tx.new.conn.now) }
-        ensures survives { Survives (state S.Store tx.old.conn.now) (state S.Store tx.new.conn.now) (λ _. ⊥) };
+        ensures moves { TakesOn step (state S.Store tx.old.conn.now) (state S.Store tx.new.conn.now) result };
 }
 
 /// Does it in a transaction of its own.

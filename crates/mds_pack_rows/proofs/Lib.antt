@@ -1,7 +1,9 @@
 pub mod AskLemmas
 pub mod BodyLemmas
+pub mod Creates
 pub mod DetailLemmas
 pub mod EightLemmas
+pub mod FrameLemmas
 pub mod LaidLemmas
 pub mod MakingTexts
 pub mod NameLemmas
@@ -9,6 +11,7 @@ pub mod PackTexts
 pub mod PassLemmas
 pub mod PutLemmas
 pub mod RefusedLemmas
+pub mod SchemaLengths
 pub mod SpreadLemmas
 pub mod SwapLemmas
 pub mod TwoSchemas

@@ -337,6 +337,21 @@ puts_none s = (
   ),
 )
 
+-- versions are put, and then others
+pub changes_then : (a b c : State) (xs ys : List Fact) → ChangesPacks a b × NamesMore a.now.trees b.now.trees xs
+    → ChangesPacks b c × NamesMore b.now.trees c.now.trees ys → ChangesPacks a c × NamesMore a.now.trees c.now.trees (xs ++ ys)
+changes_then a b c xs ys one two = (
+  record {
+    is_open = two.0.is_open;
+    schema = two.0.schema ∙ one.0.schema;
+    others = others_then a.now.trees b.now.trees c.now.trees a.now.schema.tables one.0.others
+        (subst (λ (s : Schema). KeepsOthers pack_tree b.now.trees c.now.trees s.tables) one.0.schema two.0.others);
+    committed = two.0.committed ∙ one.0.committed;
+    sound = two.0.sound;
+  },
+  named_then a.now.trees b.now.trees c.now.trees xs ys one.1 two.1,
+)
+
 module _ (a b c : State) (later : doubt b.is_clean ≤ doubt c.is_clean) where
   pub there_before : IsThere a c → IsThere a b
   there_before there = record {
@@ -363,17 +378,7 @@ module _ (a b c : State) (later : doubt b.is_clean ≤ doubt c.is_clean) where
     on_then a b c later p.0 q.0,
     λ there.
         let one = p.1 (there_before there) in
-        let two = q.1 (there_after there one.0) in (
-          record {
-            is_open = two.0.is_open;
-            schema = two.0.schema ∙ one.0.schema;
-            others = others_then a.now.trees b.now.trees c.now.trees a.now.schema.tables one.0.others
-                (subst (λ (s : Schema). KeepsOthers pack_tree b.now.trees c.now.trees s.tables) one.0.schema two.0.others);
-            committed = two.0.committed ∙ one.0.committed;
-            sound = two.0.sound;
-          },
-          named_then a.now.trees b.now.trees c.now.trees xs ys one.1 two.1,
-        ),
+        changes_then a b c xs ys one (q.1 (there_after there one.0)),
   )
 
   -- what keeps the commit in two steps

@@ -17,11 +17,11 @@ use Rattle.mds_keeper.specs.Books.{row_fact}
 use Rattle.mds_keeper.specs.declared.day_book.Version.{Version}
 use Rattle.mds_tables.specs.RowFacts.{text_at}
 use Rattle.mds_tables.specs.Stores.{Begins}
-use Rattle.mds_tables.specs.Tables.{More, schema_with, tables_1}
-use Rattle.mds_inserts.specs.Writing.{IsMore, Keeps, KeepsOthers}
+use Rattle.mds_tables.specs.Tables.{More, schema_with}
+use Rattle.mds_inserts.specs.Writing.{IsMore, KeepsOthers}
 use Rattle.mds_pack_rows.specs.PackCells.{key_cells, pack_cells}
 use Rattle.mds_pack_rows.specs.PackFacts.{pack_facts, pack_versions, readings_facts, readings_in}
-use Rattle.mds_pack_rows.specs.PackTables.{Behind, body_columns, pack_tree, packs_then, schema_2}
+use Rattle.mds_pack_rows.specs.PackTables.{Behind, body_columns, pack_tree, packs_then}
 use Rattle.mds_pack_rows.specs.Swaps.{Swaps}
 
 -- Whatever the tables are, an open connection stays open, and the transaction goes on.
@@ -51,15 +51,6 @@ pub record ChangesPacks (old new : State) : Type 0 where
 pub record FindsThere (old new : State) (Shows : Trees → Type 0) : Type 0 where
   pub same : (rest : More) → old.now.schema ≡ schema_with (packs_then rest) → IsUnchanged old new
   pub shows : (rest : More) → old.now.schema ≡ schema_with (packs_then rest) → IsDatabase old.now → Shows old.now.trees
-
--- mds_pack follows the tables of schema 1, which are as they were, and has no row. Nothing is committed.
-pub record MakesPack (old new : State) : Type 0 where
-  pub is_open : IsTrue new.is_open
-  pub schema : new.now.schema ≡ schema_2
-  pub others : Keeps old.now.trees new.now.trees tables_1
-  pub none : new.now.trees pack_tree ≡ []
-  pub committed : new.committed ≡ old.committed
-  pub sound : IsSound schema_2 new.now.trees
 
 -- one of these rows is this one, whatever their rowids
 abbrev pub IsAmong : Row → List Row → Type 0

@@ -20,9 +20,9 @@ mod putting;
 mod statements;
 
 pub use bodies::{blob_at, has_some, readings_for, unpack_for, unpack_whole};
-pub use details::{put_details, put_on};
+pub use details::{DetailTable, put_details};
 pub use eights::put_days;
 pub use grouping::put_day;
-pub use known::{are_daily_indexes, are_daily_tables, has_schema_2, has_schema_3};
-pub use making::{make_daydetail, make_pack};
+pub use known::has_schema;
+pub use making::make_table;
 pub use statements::packs_of_day;

@@ -17,7 +17,7 @@ use Rattle.mds_tables.specs.Layouts.{Layout}
 use Rattle.mds_tables.specs.Tables.{version_tree}
 use Rattle.mds_tables.proofs.CallLemmas.{survives_more}
 use Rattle.mds_tables.proofs.CauseLemmas.{failed_since}
-use Rattle.mds_pack_rows.specs.FormLayout.{forms_layout}
+use Rattle.mds_pack_rows.specs.Current.{current_layout}
 use Rattle.mds_store.proofs.Adopting.{is_adopted, still_holds}
 use Rattle.mds_pack_store.specs.Daily.{AreBare, AreDaily, IsDailyStore}
 use Rattle.mds_pack_store.specs.Formed.{AreFormed, IsFormedAdopted, IsFormedStore}
@@ -149,17 +149,17 @@ of_daily db is = record { version = is.store.version; bare = is.bare }
 pub of_formed : (db : Database) → IsFormedStore db → AreFormed db.trees
 of_formed db is = record { version = is.store.version; bare = is.bare }
 
-pub is_formed_adopted : (old new : State) → HoldsTablesOf forms_layout old → Survives old new (λ _. ⊥) → (HasCleanDisk new → KeepsCommit old new)
+pub is_formed_adopted : (old new : State) → HoldsTablesOf current_layout old → Survives old new (λ _. ⊥) → (HasCleanDisk new → KeepsCommit old new)
     → HasCleanDisk new → AreOpen old new → AreFormed old.committed.trees → IsFormedAdopted old new
 is_formed_adopted old new held survives kept clean are_open are = record {
-  adopted = is_adopted forms_layout old new held survives kept clean are_open are.version;
+  adopted = is_adopted current_layout old new held survives kept clean are_open are.version;
   bare = are.bare;
 }
 
 -- and so it stays
-pub still_formed : (old new : State) → HoldsTablesOf forms_layout old → Survives old new (λ _. ⊥) → (HasCleanDisk new → KeepsCommit old new)
+pub still_formed : (old new : State) → HoldsTablesOf current_layout old → Survives old new (λ _. ⊥) → (HasCleanDisk new → KeepsCommit old new)
     → (HasCleanDisk new → AreFormed old.committed.trees) → HasCleanDisk new → IsTrue new.is_open → IsFormedStore new.committed
 still_formed old new held survives kept are clean is_open = record {
-  store = still_holds forms_layout old new held survives kept (λ clean. (are clean).version) clean is_open;
+  store = still_holds current_layout old new held survives kept (λ clean. (are clean).version) clean is_open;
   bare = subst (λ (db : Database). AreBare db.trees) (sym ((kept clean).committed is_open)) (are clean).bare;
 }

@@ -9,18 +9,17 @@ use Rattle.mds_keeper.specs.declared.additions.Additions.{Additions}
 use Rattle.mds_tables.specs.Making.{KeepsNothingOf}
 use Rattle.mds_tables.specs.Queries.{Answers}
 use Rattle.mds_tables.specs.Stores.{AddsOf, CommitsOf, HoldsOf, LeavesAddedOf}
-use Rattle.mds_pack_rows.specs.FormLayout.{forms_layout}
-use Rattle.mds_pack_rows.specs.FormTables.{schema_4}
+use Rattle.mds_pack_rows.specs.Current.{current_layout, current_schema}
 use Rattle.mds_form_rows.specs.FormPutting.{GainsForms}
 use Rattle.mds_pack_store.specs.Daily.{AreBare}
 use Rattle.mds_pack_store.specs.Formed.{AreFormed, HoldsFormed, IsFormedStore}
 use Rattle.mds_pack_store.proofs.Adopting.{of_formed}
 
-pub as_store : {s : State} → HoldsFormed s → HoldsOf forms_layout s
+pub as_store : {s : State} → HoldsFormed s → HoldsOf current_layout s
 as_store holds clean is_open = (holds.committed clean is_open).store
 
 -- one that keeps nothing has no row in any table but mds_schema
-pub of_nothing : (db : Database) → KeepsNothingOf forms_layout db → IsFormedStore db
+pub of_nothing : (db : Database) → KeepsNothingOf current_layout db → IsFormedStore db
 of_nothing db none = record { store = none.store; bare = (none.bare.1.0, none.bare.1.1.0) }
 
 -- a crash leaves what is committed on an open connection
@@ -32,8 +31,8 @@ of_open s live settled holds = record {
       let it = holds clean in subst AreFormed (sym (settled it.0 trees may)) (of_formed s.committed it.1);
   sound = λ clean trees may.
       let it = holds clean in
-      let obeys : IsSound schema_4 s.committed.trees = subst (λ schema. IsSound schema s.committed.trees) it.1.store.schema (live it.0).1 in
-      ∣ subst (IsSound schema_4) (sym (settled it.0 trees may)) obeys ∣₁;
+      let obeys : IsSound current_schema s.committed.trees = subst (λ schema. IsSound schema s.committed.trees) it.1.store.schema (live it.0).1 in
+      ∣ subst (IsSound current_schema) (sym (settled it.0 trees may)) obeys ∣₁;
 }
 
 was_clean : {old new : State} (Commits : Trees → Type 0) → Survives old new Commits → HasCleanDisk new → HasCleanDisk old
@@ -46,7 +45,7 @@ stays_formed old new holds clean kept is_open =
 
 -- a question changes nothing
 pub formed_on : {A E : Type 0} {old new : State} {r : Result A E} {Tells : Trees → A → Type 0} → HoldsFormed old
-    → Answers (HoldsOf forms_layout) old new r Tells → HoldsFormed new
+    → Answers (HoldsOf current_layout) old new r Tells → HoldsFormed new
 formed_on {old = old} {new = new} holds answered =
     let store = as_store holds in
     let survives = answered.survives store in
@@ -67,8 +66,8 @@ still_bare : (old new : Trees) (additions : Additions) → AddsOf GainsForms old
 still_bare old new additions adds bare = (adds.unfilled ∙ bare.0, adds.undated ∙ bare.1)
 
 module _ {A E : Type 0} {old new : State} {additions : Additions} (holds : HoldsFormed old)
-    (survives : Survives old new (LeavesAddedOf forms_layout GainsForms old additions)) where
-  committed : (r : Result A E) → HasCleanDisk old → OnOk r (CommitsOf forms_layout GainsForms old new additions)
+    (survives : Survives old new (LeavesAddedOf current_layout GainsForms old additions)) where
+  committed : (r : Result A E) → HasCleanDisk old → OnOk r (CommitsOf current_layout GainsForms old new additions)
       → OnErr r (KeepsCommit old new) → IsTrue new.is_open → IsFormedStore new.committed
   committed (Ok x) clean made kept is_open = record {
     store = made.store;
@@ -77,7 +76,7 @@ module _ {A E : Type 0} {old new : State} {additions : Additions} (holds : Holds
   committed (Err e) clean made kept is_open = stays_formed old new holds clean kept is_open
 
   -- it is made, or nothing is changed
-  pub formed_with : (r : Result A E) → (HasCleanDisk new → OnOk r (CommitsOf forms_layout GainsForms old new additions))
+  pub formed_with : (r : Result A E) → (HasCleanDisk new → OnOk r (CommitsOf current_layout GainsForms old new additions))
       → (HasCleanDisk new → OnErr r (KeepsCommit old new)) → HoldsFormed new
   formed_with r ok err = record {
     committed = λ clean. committed r (was_clean _ survives clean) (ok clean) (err clean);

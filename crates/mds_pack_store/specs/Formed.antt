@@ -5,8 +5,7 @@ use Rattle.sqlite.specs.State.{HasCleanDisk, State}
 use Rattle.sqlite_catalog.specs.Listing.{IsSound}
 use Rattle.sqlite_trees.specs.Tree.{Trees}
 use Rattle.mds_tables.specs.Stores.{IsStore, IsStoreOf, versions_said}
-use Rattle.mds_pack_rows.specs.FormLayout.{forms_layout}
-use Rattle.mds_pack_rows.specs.FormTables.{schema_4}
+use Rattle.mds_pack_rows.specs.Current.{current_layout, current_schema}
 use Rattle.mds_store.specs.Starting.{IsAdopted}
 use Rattle.mds_pack_store.specs.Daily.{AreBare, IsDailyStore}
 use Rattle.mds_pack_store.specs.Packed.{IsPackedStore}
@@ -18,7 +17,7 @@ pub record AreFormed (trees : Trees) : Type 0 where
 
 -- a store of schema 4
 pub record IsFormedStore (db : Database) : Type 0 where
-  pub store : IsStoreOf forms_layout db
+  pub store : IsStoreOf current_layout db
   pub bare : AreBare db.trees
 
 -- While the disk is honest and the connection open, what is committed is a store of schema 4. What a crash may leave says 4, has
@@ -26,7 +25,7 @@ pub record IsFormedStore (db : Database) : Type 0 where
 pub record HoldsFormed (s : State) : Type 0 where
   pub committed : HasCleanDisk s → IsTrue s.is_open → IsFormedStore s.committed
   pub left : HasCleanDisk s → (trees : Trees) → s.may_leave trees → AreFormed trees
-  pub sound : HasCleanDisk s → (trees : Trees) → s.may_leave trees → ∥ IsSound schema_4 trees ∥₁
+  pub sound : HasCleanDisk s → (trees : Trees) → s.may_leave trees → ∥ IsSound current_schema trees ∥₁
 
 -- a store of an earlier schema, which is to be migrated first
 abbrev pub IsEarlierStore : Database → Type 0
@@ -34,5 +33,5 @@ IsEarlierStore db = IsStore db ⊎ (IsPackedStore db ⊎ IsDailyStore db)
 
 -- The database was a store of schema 4, and keeps what it kept.
 pub record IsFormedAdopted (old new : State) : Type 0 where
-  pub adopted : IsAdopted forms_layout old new
+  pub adopted : IsAdopted current_layout old new
   pub bare : AreBare old.committed.trees

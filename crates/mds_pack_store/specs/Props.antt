@@ -7,7 +7,7 @@ use Rattle.sqlite.specs.State.{State}
 use Rattle.sqlite_trees.specs.Tree.{Trees}
 use Rattle.sqlite_value.specs.Order.{Row}
 use Rattle.sqlite_value.specs.contracts.value.Value.{the_row}
-use Rattle.mds_pack_rows.specs.FormLayout.{forms_layout}
+use Rattle.mds_pack_rows.specs.Current.{current_layout}
 use Rattle.mds_store.specs.Props.{IsStore-prop}
 use Rattle.mds_pack_store.specs.Daily.{AreBare}
 use Rattle.mds_pack_store.specs.Formed.{AreFormed, HoldsFormed, IsFormedStore}
@@ -26,7 +26,7 @@ AreFormed-prop trees a b = λ i. record {
 
 IsFormedStore-prop : (db : Database) → IsProp (IsFormedStore db)
 IsFormedStore-prop db a b = λ i. record {
-  store = IsStore-prop forms_layout db a.store b.store i;
+  store = IsStore-prop current_layout db a.store b.store i;
   bare = AreBare-prop db.trees a.bare b.bare i;
 }
 

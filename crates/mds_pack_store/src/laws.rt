@@ -6,8 +6,7 @@ ghost use Rattle.sqlite.specs.State.{HasCleanDisk};
 ghost use Rattle.sqlite_catalog.specs.Listing.{IsSound};
 ghost use Rattle.sqlite_trees.specs.Tree.{Trees};
 ghost use Rattle.mds_tables.specs.Stores.{world_kept};
-ghost use Rattle.mds_pack_rows.specs.FormLayout.{forms_layout, world_4};
-ghost use Rattle.mds_pack_rows.specs.FormTables.{schema_4};
+ghost use Rattle.mds_pack_rows.specs.Current.{current_layout, current_schema, current_world};
 ghost use Rattle.mds_pack_store.specs.Formed.{AreFormed, IsFormedStore};
 ghost use Rattle.mds_world.specs.World.{World};
 
@@ -20,14 +19,14 @@ use sqlite::Alter;
 /// `adopt` takes. While it is honest, any tables that a crash may leave are one too, even if a fault shut the connection. They obey
 /// schema 4, say 4, and have no row that goes unseen.
 pub fn a_keeper_is_its_tables<S: Alter>(_keeper: &PackKeeper<S>)
-    ensures world { (⟦<PackKeeper<S> as Keeper>⟧.kept _keeper.now).world ≡ world_kept forms_layout (state S.Store _keeper.now.conn) }
+    ensures world { (⟦<PackKeeper<S> as Keeper>⟧.kept _keeper.now).world ≡ world_kept current_layout (state S.Store _keeper.now.conn) }
     ensures honest { (⟦<PackKeeper<S> as Keeper>⟧.kept _keeper.now).honest ↔ HasCleanDisk (state S.Store _keeper.now.conn) }
     ensures sound { (⟦<PackKeeper<S> as Keeper>⟧.kept _keeper.now).sound
         ↔ (HasCleanDisk (state S.Store _keeper.now.conn) × IsTrue (state S.Store _keeper.now.conn).is_open) }
     ensures may_leave { (left : World) → (⟦<PackKeeper<S> as Keeper>⟧.kept _keeper.now).may_leave left
-        ↔ ((trees : Trees) × (state S.Store _keeper.now.conn).may_leave trees × (world_4 trees ≡ left)) }
+        ↔ ((trees : Trees) × (state S.Store _keeper.now.conn).may_leave trees × (current_world trees ≡ left)) }
     ensures store { HasCleanDisk (state S.Store _keeper.now.conn) → IsTrue (state S.Store _keeper.now.conn).is_open
         → IsFormedStore (state S.Store _keeper.now.conn).committed }
     ensures left { HasCleanDisk (state S.Store _keeper.now.conn) → (trees : Trees) → (state S.Store _keeper.now.conn).may_leave trees
-        → AreFormed trees × ∥ IsSound schema_4 trees ∥₁ }
+        → AreFormed trees × ∥ IsSound current_schema trees ∥₁ }
 {}

@@ -3,7 +3,7 @@
 ghost use Rattle.std.specs.Prelude.{◌≡◌, IsTrue, false};
 ghost use Rattle.sqlite.specs.Held.{state};
 ghost use Rattle.sqlite.specs.State.{HasCleanDisk};
-ghost use Rattle.mds_pack_rows.specs.FormLayout.{forms_layout};
+ghost use Rattle.mds_pack_rows.specs.Current.{current_layout};
 ghost use Rattle.mds_store.specs.KeptRows.{kept_in};
 ghost use Rattle.mds_store.specs.Props.{settles};
 ghost use Rattle.mds_pack_store.specs.Formed.{HoldsFormed, IsFormedStore};
@@ -57,11 +57,11 @@ impl<S: Alter> PackKeeper<S> {
 }
 
 impl<S: Alter> Keeper for PackKeeper<S> {
-    ghost kept = { λ k. kept_in forms_layout (state S.Store k.conn) };
+    ghost kept = { λ k. kept_in current_layout (state S.Store k.conn) };
 
     ghost sound_honest = { λ _ sound. sound.0 };
 
-    ghost settled = { λ k sound left may. settles forms_layout _ _ (λ trees. S.Store.settled k.conn.store trees sound.1) left may };
+    ghost settled = { λ k sound left may. settles current_layout _ _ (λ trees. S.Store.settled k.conn.store trees sound.1) left may };
 
     fn day(&mut self, stream: Stream, day: Day) -> Result<DayBook, Unavailable> {
         day_of(self.alloc, &mut self.conn, &stream, day)

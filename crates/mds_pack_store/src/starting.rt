@@ -10,9 +10,9 @@ ghost use Rattle.mds_tables.specs.Queries.{Answers};
 ghost use Rattle.mds_tables.specs.Layouts.{Layout};
 ghost use Rattle.mds_tables.specs.Stores.{HoldsTablesOf};
 ghost use Rattle.mds_tables.specs.Tables.{detail_tree, no_schema, schema_1, version_tree};
+ghost use Rattle.mds_pack_rows.specs.Current.{current_layout};
 ghost use Rattle.mds_pack_rows.specs.DailyLayout.{daily_layout};
 ghost use Rattle.mds_pack_rows.specs.DailyTables.{schema_3};
-ghost use Rattle.mds_pack_rows.specs.FormLayout.{forms_layout};
 ghost use Rattle.mds_pack_rows.specs.PackTables.{schema_2};
 ghost use Rattle.mds_pack_rows.specs.PacksLayout.{packs_layout};
 ghost use Rattle.mds_store.specs.Starting.{IsCreated, IsRefused};
@@ -22,11 +22,11 @@ ghost use Rattle.mds_pack_store.specs.Packed.{ArePacked};
 
 use crate::pack_keeper::PackKeeper;
 use crate::rows::{detail_rows, slot_rows};
-use mds_form_rows::{has_schema_4, make_tables};
-use mds_pack_rows::{has_schema_2, has_schema_3};
+use mds_form_rows::make_tables;
+use mds_pack_rows::has_schema;
 use mds_selects::is_version;
 use mds_store::{StoreFault, is_empty};
-use mds_tables::{has_schema_1, ready};
+use mds_tables::ready;
 use sqlite::{Alter, Connection, Error, Row};
 use std::alloc::Global;
 
@@ -38,7 +38,7 @@ pub fn create<S: Alter>(
     conn: Connection<S>,
 ) -> Result<PackKeeper<S>, (StoreFault, Connection<S>)>
     ensures ok { IfOk result (λ keeper. HasCleanDisk (state S.Store keeper.conn)
-        → IsCreated forms_layout (state S.Store conn) (state S.Store keeper.conn)) }
+        → IsCreated current_layout (state S.Store conn) (state S.Store keeper.conn)) }
     ensures err { IfErr result (λ e. HasCleanDisk (state S.Store e.1)
         → IsRefused ((state S.Store conn).now.schema ≡ no_schema) ⊥ (state S.Store conn) (state S.Store e.1) e.0) }
     ensures busy { conn.in_transaction ≡ true
@@ -46,8 +46,8 @@ pub fn create<S: Alter>(
     ensures limit { MatchResult result (λ keeper. keeper.conn.step_limit ≡ conn.step_limit) (λ e. e.1.step_limit ≡ conn.step_limit) }
     ensures mode { IfErr result (λ e. e.1.in_transaction ≡ conn.in_transaction) }
     ensures survives { MatchResult result
-        (λ keeper. Survives (state S.Store conn) (state S.Store keeper.conn) (LeavesMadeOf forms_layout (state S.Store conn)))
-        (λ e. Survives (state S.Store conn) (state S.Store e.1) (LeavesMadeOf forms_layout (state S.Store conn))) }
+        (λ keeper. Survives (state S.Store conn) (state S.Store keeper.conn) (LeavesMadeOf current_layout (state S.Store conn)))
+        (λ e. Survives (state S.Store conn) (state S.Store e.1) (LeavesMadeOf current_layout (state S.Store conn))) }
 {
     let mut conn = conn;
     if !conn.is_autocommit() {
@@ -89,17 +89,21 @@ pub fn adopt<S: Alter>(
     if !conn.is_autocommit() {
         return Err((StoreFault::InTransaction, conn));
     }
-    if has_schema_1(conn.schema()) {
+    let is_first = has_schema(conn.schema(), 1);
+    if is_first {
         return Err(refusal_of_first(conn));
     }
-    if has_schema_2(conn.schema()) {
+    let is_second = has_schema(conn.schema(), 2);
+    if is_second {
         return Err(refusal_of_second(conn));
     }
-    if has_schema_3(conn.schema()) {
+    let is_third = has_schema(conn.schema(), 3);
+    if is_third {
         return Err(refusal_of_third(conn));
     }
     // decides: U3: a database is no store
-    if !has_schema_4(conn.schema()) {
+    let is_fourth = has_schema(conn.schema(), 4);
+    if !is_fourth {
         return Err((StoreFault::OtherSchema, conn));
     }
     // decides: U1: a store can't be made or adopted
@@ -114,9 +118,9 @@ pub fn adopt<S: Alter>(
 /// the library's: the store failed with a cause, or the limit of steps was reached.
 pub fn are_formed<S: Alter>(conn: &mut Connection<S>) -> Result<bool, Error>
     requires { conn.old.in_transaction ≡ false }
-    ensures answers { Answers (HoldsTablesOf forms_layout) (state S.Store conn.old) (state S.Store conn.new) result
+    ensures answers { Answers (HoldsTablesOf current_layout) (state S.Store conn.old) (state S.Store conn.new) result
         (λ trees are. MatchBool are (AreFormed trees) (AreFormed trees → ⊥)) }
-    ensures cause { HasCleanDisk (state S.Store conn.new) → HoldsTablesOf forms_layout (state S.Store conn.old)
+    ensures cause { HasCleanDisk (state S.Store conn.new) → HoldsTablesOf current_layout (state S.Store conn.old)
         → IfErr result (HasFailed (state S.Store conn.old) (state S.Store conn.new)) }
 {
     // decides: U3: a database is no store

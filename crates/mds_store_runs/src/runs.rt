@@ -6,7 +6,7 @@ ghost use Rattle.sqlite.specs.State.{HasCleanDisk};
 ghost use Rattle.sqlite_trees.specs.Tree.{Trees};
 ghost use Rattle.mds_world.specs.World.{IsLawful, World};
 ghost use Rattle.mds_tables.specs.Stores.{world_kept};
-ghost use Rattle.mds_pack_rows.specs.FormLayout.{forms_layout, world_4};
+ghost use Rattle.mds_pack_rows.specs.Current.{current_layout, current_world};
 ghost use Rattle.mds_pack_store.specs.Formed.{HoldsFormed};
 ghost use Rattle.mds_service.specs.Crashes.{MayLeave};
 ghost use Rattle.mds_service.specs.Machine.{Run};
@@ -27,12 +27,12 @@ pub fn run_packs<S: Alter>(
     // after a crash may find tables that name it, or it with one more whole request whose answer was Unavailable. After
     // that request nothing was changed.
     ensures run { IfOk result (λ answers. HasCleanDisk (state S.Store keeper.new.conn)
-        → IsTrue (state S.Store keeper.old.conn).is_open → IsLawful (world_kept forms_layout (state S.Store keeper.old.conn))
+        → IsTrue (state S.Store keeper.old.conn).is_open → IsLawful (world_kept current_layout (state S.Store keeper.old.conn))
         → (w : World) × IsLawful w
-        × Run (world_kept forms_layout (state S.Store keeper.old.conn)) requests.now answers.items w
-        × (IsTrue (state S.Store keeper.new.conn).is_open → world_kept forms_layout (state S.Store keeper.new.conn) ≡ w)
+        × Run (world_kept current_layout (state S.Store keeper.old.conn)) requests.now answers.items w
+        × (IsTrue (state S.Store keeper.new.conn).is_open → world_kept current_layout (state S.Store keeper.new.conn) ≡ w)
         × ((trees : Trees) → (state S.Store keeper.new.conn).may_leave trees
-        → MayLeave w requests.now answers.items (world_4 trees))) }
+        → MayLeave w requests.now answers.items (current_world trees))) }
 
     // The tables are those of a store, which can be opened again.
     ensures store { HoldsFormed (state S.Store keeper.new.conn) }

@@ -2,10 +2,8 @@ pub mod CallLemmas
 pub mod CauseLemmas
 pub mod CreateLemmas
 pub mod CreateTexts
-pub mod Creates
 pub mod FactLemmas
 pub mod InsertLemmas
-pub mod KnownLemmas
 pub mod MadeLemmas
 pub mod Named
 pub mod OpenTexts

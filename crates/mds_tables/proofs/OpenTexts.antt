@@ -23,20 +23,6 @@ pub insert_schema_plain : (more : More) → IsPlain (understood (schema_with mor
 unfolding understood everything
 insert_schema_plain more = (refl, refl)
 
-abbrev pub insert_head : List ℕ
-insert_head = codes "INSERT INTO mds_head (nmi, suffix, day, length, unit) VALUES (?1, ?2, ?3, ?4, ?5)"
-
-abbrev pub head_terms : List Term
-head_terms = lit Null ∷ col 0 0 ∷ col 0 1 ∷ col 0 2 ∷ col 0 3 ∷ col 0 4 ∷ []
-
-pub insert_head_is : (more : More) → command_of (understood (schema_with more) insert_head) ≡ Insert 1 (Values head_terms 6)
-unfolding understood everything
-insert_head_is more = refl
-
-pub insert_head_plain : (more : More) → IsPlain (understood (schema_with more) insert_head)
-unfolding understood everything
-insert_head_plain more = (refl, refl)
-
 abbrev pub insert_event : List ℕ
 insert_event = codes "INSERT INTO mds_event (nmi, suffix, day, trans, ticket, moment, reading) VALUES (?1, ?2, ?3, ?4, ?5, ?6, ?7)"
 
@@ -50,45 +36,3 @@ insert_event_is more = refl
 pub insert_event_plain : (more : More) → IsPlain (understood (schema_with more) insert_event)
 unfolding understood everything
 insert_event_plain more = (refl, refl)
-
-abbrev pub insert_period : List ℕ
-insert_period = codes "INSERT INTO mds_period (nmi, suffix, register, start, finish, moment, body) VALUES (?1, ?2, ?3, ?4, ?5, ?6, ?7)"
-
-abbrev pub period_terms : List Term
-period_terms = lit Null ∷ col 0 0 ∷ col 0 1 ∷ col 0 2 ∷ col 0 3 ∷ col 0 4 ∷ col 0 5 ∷ col 0 6 ∷ []
-
-pub insert_period_is : (more : More) → command_of (understood (schema_with more) insert_period) ≡ Insert 5 (Values period_terms 8)
-unfolding understood everything
-insert_period_is more = refl
-
-pub insert_period_plain : (more : More) → IsPlain (understood (schema_with more) insert_period)
-unfolding understood everything
-insert_period_plain more = (refl, refl)
-
-abbrev pub insert_holiday : List ℕ
-insert_holiday = codes "INSERT INTO mds_holiday (day) VALUES (?1)"
-
-abbrev pub holiday_terms : List Term
-holiday_terms = lit Null ∷ col 0 0 ∷ []
-
-pub insert_holiday_is : (more : More) → command_of (understood (schema_with more) insert_holiday) ≡ Insert 6 (Values holiday_terms 2)
-unfolding understood everything
-insert_holiday_is more = refl
-
-pub insert_holiday_plain : (more : More) → IsPlain (understood (schema_with more) insert_holiday)
-unfolding understood everything
-insert_holiday_plain more = (refl, refl)
-
-abbrev pub insert_job : List ℕ
-insert_job = codes "INSERT INTO mds_job (id, body, total) VALUES (?1, ?2, ?3)"
-
-abbrev pub job_terms : List Term
-job_terms = lit Null ∷ col 0 0 ∷ col 0 1 ∷ col 0 2 ∷ []
-
-pub insert_job_is : (more : More) → command_of (understood (schema_with more) insert_job) ≡ Insert 7 (Values job_terms 4)
-unfolding understood everything
-insert_job_is more = refl
-
-pub insert_job_plain : (more : More) → IsPlain (understood (schema_with more) insert_job)
-unfolding understood everything
-insert_job_plain more = (refl, refl)

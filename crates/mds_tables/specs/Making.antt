@@ -1,5 +1,5 @@
 -- What making the tables leaves (profile).
-use Rattle.std.specs.Prelude.{◌≡◌, List, [], ℕ, drop, take, IsTrue}
+use Rattle.std.specs.Prelude.{◌≡◌, List, [], drop, IsTrue}
 use Rattle.std.specs.FinSet as set
 use Rattle.std.specs.List.{AllByRecursion}
 use Rattle.sqlite.specs.Effect.{Database}
@@ -10,7 +10,7 @@ use Rattle.sqlite_schema.specs.declared.schema.Table.{Table}
 use Rattle.sqlite_trees.specs.Tree.{Trees}
 use Rattle.mds_tables.specs.Layouts.{Layout, world_with}
 use Rattle.mds_tables.specs.Stores.{IsStoreOf}
-use Rattle.mds_tables.specs.Tables.{indexes_1, no_schema, schema_with, tables_1, tables_with}
+use Rattle.mds_tables.specs.Tables.{no_schema, schema_with, tables_with}
 
 -- a store that keeps nothing: mds_schema says the number of the layout, and no other table has a row
 pub record KeepsNothingOf (layout : Layout) (db : Database) : Type 0 where
@@ -29,10 +29,6 @@ pub record LeavesMadeOf (layout : Layout) (old : State) (left : Trees) : Type 0 
   pub was_open : IsTrue old.is_open
   pub made : old.committed.schema ≡ no_schema → KeepsNothingOf layout (record { schema = schema_with layout.more; trees = left })
   pub sound : old.committed.schema ≡ no_schema → IsSound (schema_with layout.more) left
-
--- the first of the tables that every schema has, with their indexes
-abbrev pub schema_of : ℕ → Schema
-schema_of n = record { tables = take n tables_1; indexes = take n indexes_1; views = [] }
 
 -- these tables have no row
 abbrev pub AreEmpty : List Table → Database → Type 0

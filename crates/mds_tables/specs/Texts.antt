@@ -1,5 +1,5 @@
 -- The statements that make the tables of schema 1 (profile).
-use Rattle.std.specs.Prelude.{ℕ, List, [], ◌∷◌, codes, slice_index_or}
+use Rattle.std.specs.Prelude.{ℕ, List, codes}
 
 abbrev pub create_schema : List ℕ
 create_schema = codes "CREATE TABLE mds_schema (version INTEGER NOT NULL, UNIQUE (version)) STRICT"
@@ -24,10 +24,3 @@ create_holiday = codes "CREATE TABLE mds_holiday (day INTEGER NOT NULL, UNIQUE (
 
 abbrev pub create_job : List ℕ
 create_job = codes "CREATE TABLE mds_job (id TEXT NOT NULL, body TEXT NOT NULL, total INTEGER NOT NULL, PRIMARY KEY (id)) STRICT"
-
--- the n-th of them; a table comes after those that it refers to
-abbrev pub create : ℕ → List ℕ
-create n =
-    slice_index_or
-    (create_schema ∷ create_head ∷ create_version ∷ create_detail ∷ create_event ∷ create_period ∷ create_holiday ∷ [])
-    n create_job

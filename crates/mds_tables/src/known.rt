@@ -1,14 +1,13 @@
-//! Recognizes the tables of a store.
+//! Recognizes a table, an index and a reference of a store by their parts.
 
-ghost use Rattle.std.specs.Prelude.{◌≡◌, ◌≢◌, ◌↔◌, IsTrue, [], ◌∷◌, codes, map};
-ghost use Rattle.std.specs.Bool.{MatchBool};
+ghost use Rattle.std.specs.Prelude.{◌≡◌, ◌↔◌, IsTrue, [], ◌∷◌, map};
 ghost use Rattle.sqlite.specs.declared.types.Value.TheVariants.{Null};
 ghost use Rattle.mds_tables.specs.Shapes.{HasKey, IsBare};
-ghost use Rattle.mds_tables.specs.Tables.{day_key, detail_key, detail_table, event_key, event_table, head_table, holiday_table, indexes_1, job_table, key_index, keyed_table, needed, period_key, period_table, schema_1, schema_table, tables_1, to_head, version_key, version_table};
+ghost use Rattle.mds_tables.specs.Tables.{key_index, keyed_table, needed, to_head};
 
 use sqlite_items::Items;
 use sqlite_schema::code::Terms;
-use sqlite_schema::schema::{Action, Column, Index, Kind, Reference, Schema, Stamps, Table};
+use sqlite_schema::schema::{Action, Column, Index, Kind, Reference, Stamps, Table};
 use sqlite_value::keys::{Collation, Order};
 use sqlite_value::value::{Bytes, Value};
 
@@ -125,7 +124,7 @@ pub fn is_keyed(
 }
 
 /// Whether a table is this one, and refers to no other.
-fn is_plain(
+pub fn is_plain(
     table: &Table,
     name: &str,
     tree: u32,
@@ -147,7 +146,7 @@ fn is_name(name: &Bytes, wanted: &str) -> bool
 }
 
 /// Whether the names are the wanted ones.
-fn are_names(names: &[Bytes], wanted: &[&str]) -> bool
+pub fn are_names(names: &[Bytes], wanted: &[&str]) -> bool
     ensures { IsTrue result ↔ (names.now ≡ map (λ one. one.now) wanted.now) }
 {
     let [one, later @ ..] = wanted else {
@@ -194,256 +193,4 @@ pub fn is_key_index(index: &Index, name: &str, table: u32, key: &[usize]) -> boo
         && index.columns.as_slice() == key
         && index.order.digits == 0
         && index.is_unique
-}
-
-/// Whether this is the table of the number of the schema.
-fn is_schema(table: &Table) -> bool
-    ensures { IsTrue result ↔ (table.now ≡ schema_table) }
-{
-    is_plain(
-        table,
-        "mds_schema",
-        0,
-        &[("version", Kind::Integer)],
-        &[],
-        &[1],
-    )
-}
-
-/// Whether this is the table of the heads of days.
-fn is_head(table: &Table) -> bool
-    ensures { IsTrue result ↔ (table.now ≡ head_table) }
-{
-    is_plain(
-        table,
-        "mds_head",
-        2,
-        &[
-            ("nmi", Kind::Text),
-            ("suffix", Kind::Text),
-            ("day", Kind::Integer),
-            ("length", Kind::Integer),
-            ("unit", Kind::Text),
-        ],
-        &[1, 2, 3],
-        &[1, 2, 3],
-    )
-}
-
-/// Whether this is the table of versions of readings.
-fn is_version(table: &Table) -> bool
-    ensures { IsTrue result ↔ (table.now ≡ version_table) }
-{
-    is_keyed(
-        table,
-        "mds_version",
-        4,
-        &[
-            ("nmi", Kind::Text),
-            ("suffix", Kind::Text),
-            ("day", Kind::Integer),
-            ("slot", Kind::Integer),
-            ("moment", Kind::Integer),
-            ("quality", Kind::Text),
-            ("code", Kind::Integer),
-            ("note", Kind::Text),
-            ("amount", Kind::Integer),
-        ],
-        &[1, 2, 3, 4, 5],
-        &[1, 2, 3, 4, 5],
-    ) && are_to_head(table.references.as_slice())
-}
-
-/// Whether this is the table of details.
-fn is_detail(table: &Table) -> bool
-    ensures { IsTrue result ↔ (table.now ≡ detail_table) }
-{
-    is_plain(
-        table,
-        "mds_detail",
-        6,
-        &[
-            ("nmi", Kind::Text),
-            ("suffix", Kind::Text),
-            ("moment", Kind::Integer),
-            ("configuration", Kind::Text),
-            ("register", Kind::Text),
-            ("datastream", Kind::Text),
-            ("meter", Kind::Text),
-            ("next", Kind::Integer),
-        ],
-        &[1, 2, 3, 4, 5, 6, 7, 8],
-        &[1, 2, 3, 4, 5, 6, 7, 8],
-    )
-}
-
-/// Whether this is the table of events.
-fn is_event(table: &Table) -> bool
-    ensures { IsTrue result ↔ (table.now ≡ event_table) }
-{
-    is_plain(
-        table,
-        "mds_event",
-        8,
-        &[
-            ("nmi", Kind::Text),
-            ("suffix", Kind::Text),
-            ("day", Kind::Integer),
-            ("trans", Kind::Text),
-            ("ticket", Kind::Text),
-            ("moment", Kind::Integer),
-            ("reading", Kind::Text),
-        ],
-        &[1, 2, 3, 4, 5, 6, 7],
-        &[1, 2, 3, 4, 5, 6, 7],
-    )
-}
-
-/// Whether this is the table of accumulations.
-fn is_period(table: &Table) -> bool
-    ensures { IsTrue result ↔ (table.now ≡ period_table) }
-{
-    is_plain(
-        table,
-        "mds_period",
-        10,
-        &[
-            ("nmi", Kind::Text),
-            ("suffix", Kind::Text),
-            ("register", Kind::Text),
-            ("start", Kind::Integer),
-            ("finish", Kind::Integer),
-            ("moment", Kind::Integer),
-            ("body", Kind::Text),
-        ],
-        &[1, 2, 3, 4, 5, 6],
-        &[1, 2, 3, 4, 5, 6],
-    )
-}
-
-/// Whether this is the table of holidays.
-fn is_holiday(table: &Table) -> bool
-    ensures { IsTrue result ↔ (table.now ≡ holiday_table) }
-{
-    is_plain(
-        table,
-        "mds_holiday",
-        12,
-        &[("day", Kind::Integer)],
-        &[],
-        &[1],
-    )
-}
-
-/// Whether this is the table of substitution jobs.
-fn is_job(table: &Table) -> bool
-    ensures { IsTrue result ↔ (table.now ≡ job_table) }
-{
-    is_plain(
-        table,
-        "mds_job",
-        14,
-        &[
-            ("id", Kind::Text),
-            ("body", Kind::Text),
-            ("total", Kind::Integer),
-        ],
-        &[1],
-        &[1],
-    )
-}
-
-/// Whether these are the first four tables.
-fn are_first_tables(schema: &Table, head: &Table, version: &Table, detail: &Table) -> bool
-    ensures { IsTrue result ↔ ((schema.now ≡ schema_table) × (head.now ≡ head_table) × (version.now ≡ version_table) × (detail.now ≡ detail_table)) }
-{
-    is_schema(schema) && is_head(head) && is_version(version) && is_detail(detail)
-}
-
-/// Whether these are the other four tables.
-fn are_last_tables(event: &Table, period: &Table, holiday: &Table, job: &Table) -> bool
-    ensures { IsTrue result ↔ ((event.now ≡ event_table) × (period.now ≡ period_table) × (holiday.now ≡ holiday_table) × (job.now ≡ job_table)) }
-{
-    is_event(event) && is_period(period) && is_holiday(holiday) && is_job(job)
-}
-
-/// Whether these are the eight tables of schema 1.
-pub fn are_tables(tables: &[Table]) -> bool
-    ensures { IsTrue result ↔ (tables.now ≡ tables_1) }
-{
-    match tables {
-        [schema, head, version, detail, event, period, holiday, job] => {
-            are_first_tables(schema, head, version, detail)
-                && are_last_tables(event, period, holiday, job)
-        }
-        _ => false,
-    }
-}
-
-/// Whether these are the first four indexes.
-fn are_first_indexes(schema: &Index, head: &Index, version: &Index, detail: &Index) -> bool
-    ensures { IsTrue result ↔ (
-        (schema.now ≡ key_index (codes "sqlite_autoindex_mds_schema_1") 0 (1 ∷ []))
-        × (head.now ≡ key_index (codes "sqlite_autoindex_mds_head_1") 2 (day_key))
-        × (version.now ≡ key_index (codes "sqlite_autoindex_mds_version_1") 4 (version_key))
-        × (detail.now ≡ key_index (codes "sqlite_autoindex_mds_detail_1") 6 (detail_key))) }
-{
-    is_key_index(schema, "sqlite_autoindex_mds_schema_1", 0, &[1])
-        && is_key_index(head, "sqlite_autoindex_mds_head_1", 2, &[1, 2, 3])
-        && is_key_index(
-            version,
-            "sqlite_autoindex_mds_version_1",
-            4,
-            &[1, 2, 3, 4, 5],
-        )
-        && is_key_index(
-            detail,
-            "sqlite_autoindex_mds_detail_1",
-            6,
-            &[1, 2, 3, 4, 5, 6, 7, 8],
-        )
-}
-
-/// Whether these are the other four indexes.
-fn are_last_indexes(event: &Index, period: &Index, holiday: &Index, job: &Index) -> bool
-    ensures { IsTrue result ↔ (
-        (event.now ≡ key_index (codes "sqlite_autoindex_mds_event_1") 8 (event_key))
-        × (period.now ≡ key_index (codes "sqlite_autoindex_mds_period_1") 10 (period_key))
-        × (holiday.now ≡ key_index (codes "sqlite_autoindex_mds_holiday_1") 12 (1 ∷ []))
-        × (job.now ≡ key_index (codes "sqlite_autoindex_mds_job_1") 14 (1 ∷ []))) }
-{
-    is_key_index(
-        event,
-        "sqlite_autoindex_mds_event_1",
-        8,
-        &[1, 2, 3, 4, 5, 6, 7],
-    ) && is_key_index(
-        period,
-        "sqlite_autoindex_mds_period_1",
-        10,
-        &[1, 2, 3, 4, 5, 6],
-    ) && is_key_index(holiday, "sqlite_autoindex_mds_holiday_1", 12, &[1])
-        && is_key_index(job, "sqlite_autoindex_mds_job_1", 14, &[1])
-}
-
-/// Whether these are the indexes of the eight keys.
-pub fn are_indexes(indexes: &[Index]) -> bool
-    ensures { IsTrue result ↔ (indexes.now ≡ indexes_1) }
-{
-    match indexes {
-        [schema, head, version, detail, event, period, holiday, job] => {
-            are_first_indexes(schema, head, version, detail)
-                && are_last_indexes(event, period, holiday, job)
-        }
-        _ => false,
-    }
-}
-
-/// Whether a database has just the tables of schema 1, as the store makes them.
-pub fn has_schema_1(schema: &Schema) -> bool
-    ensures { MatchBool result (schema.now ≡ schema_1) (schema.now ≢ schema_1) }
-{
-    are_tables(schema.tables.as_slice())
-        && are_indexes(schema.indexes.as_slice())
-        && schema.views.is_empty()
 }

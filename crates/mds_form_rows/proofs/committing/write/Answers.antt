@@ -1,16 +1,16 @@
-use Rattle.std.proofs.Common.{◌≡◌, ◌∙◌, IsTrue, false, ap, inl, refl, subst, sym, true, arith, rules}
+use Rattle.std.proofs.Common.{◌≡◌, ◌∙◌, false, ap, inl, refl, subst, sym, true, arith, rules}
 use Rattle.sqlite.specs.Effect.{Database}
 use Rattle.sqlite.specs.Held.{state}
 use Rattle.sqlite.specs.State.{HasCleanDisk, KeepsCommit, Shows, State, Survives}
 use Rattle.sqlite.proofs.StateLemmas.{survives_then}
-use Rattle.sqlite_catalog.specs.Listing.{IsSound}
 use Rattle.mds_keeper.specs.declared.additions.Additions.{Additions}
 use Rattle.mds_tables.proofs.CallLemmas.{survives_more}
-use Rattle.mds_inserts.specs.Writing.{HasAddedOf, LeavesWrittenOf, PutsAllOf, WritesOf}
+use Rattle.mds_inserts.specs.Frames.{IsAt}
+use Rattle.mds_inserts.specs.Writing.{HasAddedOf, LeavesWrittenOf, WritesOf}
 use Rattle.mds_pack_rows.specs.FormLayout.{forms_layout}
 use Rattle.mds_pack_rows.specs.FormTables.{schema_4}
 use Rattle.mds_form_rows.specs.FormPutting.{GainsForms}
-use Rattle.mds_form_rows.proofs.CommitLemmas.{there_begun}
+use Rattle.mds_form_rows.proofs.CommitLemmas.{at_begun}
 use Rattle.mds_form_rows.proofs.committing.write.Goals as goal
 
 -- a transaction that begins, writes and ends
@@ -32,68 +32,55 @@ module _ (a b d e : State) (additions : Additions) (begun : b ≡ record a { in_
       (survives_more a b d begins one) two
 
   -- the commit leaves what was put
-  module _ (put : PutsAllOf forms_layout GainsForms b d additions) (two : Survives d e (λ db. db ≡ d.now.trees)) where
-    now : b.now ≡ a.now
-    now = ap (λ (s : State). s.now) begun
-
-    module _ (clean : HasCleanDisk e) (is_open : IsTrue a.is_open) (has : a.now.schema ≡ schema_4) (sound : IsSound schema_4 a.now.trees) where
-      early : HasCleanDisk d
-      early = omega (arith, clean, two.clean)
-
-      open_then : IsTrue b.is_open
-      open_then = ap (λ (s : State). s.is_open) begun ∙ is_open
-
-      has_then : b.now.schema ≡ schema_4
-      has_then = ap (λ (db : Database). db.schema) now ∙ has
-
-      sound_then : IsSound schema_4 b.now.trees
-      sound_then = subst (λ (db : Database). IsSound schema_4 db.trees) (sym now) sound
-
-      schema_put : d.now.schema ≡ schema_4
-      schema_put = put.schema early open_then has_then sound_then
+  module _ (put : HasCleanDisk d → IsAt schema_4 b → IsAt schema_4 d × HasAddedOf forms_layout GainsForms additions b.now.trees d.now.trees)
+      (two : Survives d e (λ db. db ≡ d.now.trees)) where
+    module _ (clean : HasCleanDisk e) (at : IsAt schema_4 a) where
+      done : IsAt schema_4 d × HasAddedOf forms_layout GainsForms additions b.now.trees d.now.trees
+      done = put (omega (arith, clean, two.clean)) (at_begun a b begun at)
 
       all_put : HasAddedOf forms_layout GainsForms additions a.now.trees d.now.trees
-      all_put =
-          subst (λ (db : Database). HasAddedOf forms_layout GainsForms additions db.trees d.now.trees) now
-          (put.added early open_then has_then sound_then)
+      all_put = subst (λ (s : State). HasAddedOf forms_layout GainsForms additions s.now.trees d.now.trees) begun done.1
 
     wrote : HasCleanDisk e → Shows d e d.now d.now false → WritesOf forms_layout GainsForms a e additions
     wrote clean shown = record {
       is_open = λ o. shown.is_open;
-      schema = λ o has sound. ap (λ (db : Database). db.schema) shown.committed_is ∙ schema_put clean o has sound;
+      schema = λ o has sound.
+          ap (λ (db : Database). db.schema) shown.committed_is ∙ (done clean (record { is_open = o; schema = has; sound = sound })).0.schema;
       added = λ o has sound.
-          subst (λ (db : Database). HasAddedOf forms_layout GainsForms additions a.now.trees db.trees) (sym shown.committed_is) (all_put clean o has sound);
+          subst (λ (db : Database). HasAddedOf forms_layout GainsForms additions a.now.trees db.trees) (sym shown.committed_is)
+          (all_put clean (record { is_open = o; schema = has; sound = sound }));
     }
 
     leaves : Survives a e (LeavesWrittenOf forms_layout GainsForms a additions)
     leaves =
         survives_then a d e (λ _. ⊥) (λ db. db ≡ d.now.trees) (LeavesWrittenOf forms_layout GainsForms a additions) (λ _ db none. absurd none)
-        (λ clean db same o has sound. subst (HasAddedOf forms_layout GainsForms additions a.now.trees) (sym same) (all_put clean o has sound))
+        (λ clean db same o has sound. subst (HasAddedOf forms_layout GainsForms additions a.now.trees) (sym same)
+        (all_put clean (record { is_open = o; schema = has; sound = sound })))
         (survives_more a b d begins one) two
 
-pub returns-in_err-put_all-clause-err : goal.returns-in_err-put_all-clause-err
-returns-in_err-put_all-clause-err g c there =
+pub returns-in_err-put_additions-clause-err : goal.returns-in_err-put_additions-clause-err
+returns-in_err-put_additions-clause-err g c clean at =
     let begun = state g.S.Store c.transaction-tx.result.conn.now in
-    let mid = state g.S.Store c.put_all.new.tx.conn.now in
+    let mid = state g.S.Store c.put_additions.new.tx.conn.now in
     let kept : HasCleanDisk mid → KeepsCommit begun mid =
-    λ clean. c.put_all.ensures.kept (there_begun _ begun mid _ (ap (state g.S.Store) c.transaction-tx.ensures.begun) clean there) in
+    λ clean. c.put_additions.ensures.frames.kept clean (at_begun _ begun (ap (state g.S.Store) c.transaction-tx.ensures.begun) at) in
     search rules
 
 pub returns-in_err-or_unavailable-clause-err : goal.returns-in_err-or_unavailable-clause-err
-returns-in_err-or_unavailable-clause-err g c there =
+returns-in_err-or_unavailable-clause-err g c clean at =
     let begun = state g.S.Store c.transaction-tx.result.conn.now in
-    let mid = state g.S.Store c.put_all.new.tx.conn.now in
+    let mid = state g.S.Store c.put_additions.new.tx.conn.now in
     let kept : HasCleanDisk mid → KeepsCommit begun mid =
-    λ clean. c.put_all.ensures.kept (there_begun _ begun mid _ (ap (state g.S.Store) c.transaction-tx.ensures.begun) clean there) in
+    λ clean. c.put_additions.ensures.frames.kept clean (at_begun _ begun (ap (state g.S.Store) c.transaction-tx.ensures.begun) at) in
     search rules
 
-pub returns-in_err-put_all-clause-survives : goal.returns-in_err-put_all-clause-survives
-returns-in_err-put_all-clause-survives g c =
+pub returns-in_err-put_additions-clause-survives : goal.returns-in_err-put_additions-clause-survives
+returns-in_err-put_additions-clause-survives g c =
     let start = state g.S.Store c.args.conn.now in
     let new = state g.S.Store c.drop-tx.new.self.0 in
     let made : Survives start new (LeavesWrittenOf forms_layout GainsForms start c.args.additions.now) =
-    left start (state g.S.Store c.transaction-tx.result.conn.now) (state g.S.Store c.put_all.new.tx.conn.now) new c.args.additions.now
-    (ap (state g.S.Store) c.transaction-tx.ensures.begun) c.put_all.ensures.survives c.drop-tx.ensures.survives in
+    left start (state g.S.Store c.transaction-tx.result.conn.now) (state g.S.Store c.put_additions.new.tx.conn.now) new c.args.additions.now
+    (ap (state g.S.Store) c.transaction-tx.ensures.begun) c.put_additions.ensures.frames.survives c.drop-tx.ensures.survives in
     search rules
 
 pub returns-in_err-or_unavailable-clause-survives : goal.returns-in_err-or_unavailable-clause-survives
@@ -101,8 +88,8 @@ returns-in_err-or_unavailable-clause-survives g c =
     let start = state g.S.Store c.args.conn.now in
     let new = state g.S.Store c.commit.new.self.0 in
     let made : Survives start new (LeavesWrittenOf forms_layout GainsForms start c.args.additions.now) =
-    leaves start (state g.S.Store c.transaction-tx.result.conn.now) (state g.S.Store c.put_all.new.tx.conn.now) new c.args.additions.now
-    (ap (state g.S.Store) c.transaction-tx.ensures.begun) c.put_all.ensures.survives c.in_ok-put_all.ensures.ok c.commit.ensures.survives in
+    leaves start (state g.S.Store c.transaction-tx.result.conn.now) (state g.S.Store c.put_additions.new.tx.conn.now) new c.args.additions.now
+    (ap (state g.S.Store) c.transaction-tx.ensures.begun) c.put_additions.ensures.frames.survives c.in_ok-put_additions.ensures.frames.done c.commit.ensures.survives in
     search rules
 
 pub returns-clause-ok : goal.returns-clause-ok
@@ -110,8 +97,8 @@ returns-clause-ok g c =
     let start = state g.S.Store c.args.conn.now in
     let new = state g.S.Store c.commit.new.self.0 in
     let done : HasCleanDisk new → WritesOf forms_layout GainsForms start new c.args.additions.now =
-    λ clean. wrote start (state g.S.Store c.transaction-tx.result.conn.now) (state g.S.Store c.put_all.new.tx.conn.now) new c.args.additions.now
-    (ap (state g.S.Store) c.transaction-tx.ensures.begun) c.put_all.ensures.survives c.in_ok-put_all.ensures.ok c.commit.ensures.survives clean
+    λ clean. wrote start (state g.S.Store c.transaction-tx.result.conn.now) (state g.S.Store c.put_additions.new.tx.conn.now) new c.args.additions.now
+    (ap (state g.S.Store) c.transaction-tx.ensures.begun) c.put_additions.ensures.frames.survives c.in_ok-put_additions.ensures.frames.done c.commit.ensures.survives clean
     (rw c.in_ok-or_unavailable.ensures at (c.commit.ensures.ok clean)).1 in
     search rules
 
@@ -120,6 +107,6 @@ returns-clause-survives g c =
     let start = state g.S.Store c.args.conn.now in
     let new = state g.S.Store c.commit.new.self.0 in
     let made : Survives start new (LeavesWrittenOf forms_layout GainsForms start c.args.additions.now) =
-    leaves start (state g.S.Store c.transaction-tx.result.conn.now) (state g.S.Store c.put_all.new.tx.conn.now) new c.args.additions.now
-    (ap (state g.S.Store) c.transaction-tx.ensures.begun) c.put_all.ensures.survives c.in_ok-put_all.ensures.ok c.commit.ensures.survives in
+    leaves start (state g.S.Store c.transaction-tx.result.conn.now) (state g.S.Store c.put_additions.new.tx.conn.now) new c.args.additions.now
+    (ap (state g.S.Store) c.transaction-tx.ensures.begun) c.put_additions.ensures.frames.survives c.in_ok-put_additions.ensures.frames.done c.commit.ensures.survives in
     search rules

@@ -4,7 +4,7 @@ use Rattle.sqlite.specs.Held.{state}
 use Rattle.sqlite_value.specs.Order.{Row}
 use Rattle.mds_tables.specs.RowFacts.{text_at, unit_named}
 use Rattle.mds_selects.proofs.Asked.{and_then, answers, refused, steady, tables_held}
-use Rattle.mds_pack_rows.specs.FormLayout.{forms_layout}
+use Rattle.mds_pack_rows.specs.Current.{current_layout}
 use Rattle.mds_form_rows.specs.FormRows.{IsBookOf}
 use Rattle.mds_form_rows.proofs.DayLemmas.{is_day, no_day, only_unit}
 use Rattle.mds_form_rows.proofs.days.day_of.Goals as goal
@@ -13,12 +13,12 @@ pub returns-then-are_none-clause-book : goal.returns-then-are_none-clause-book
 returns-then-are_none-clause-book g c =
     let forms = c.in_ok-forms.forms.items in
     let packs = c.in_ok-packs.packs.items in
-    let ready = steady forms_layout (rw c.in_ok-or_unavailable.ensures at c.ready.ensures.ok) c.ready.ensures.survives c.ready.ensures.mode in
+    let ready = steady current_layout (rw c.in_ok-or_unavailable.ensures at c.ready.ensures.ok) c.ready.ensures.survives c.ready.ensures.mode in
     let asked = and_then (and_then ready (rw c.in_ok-forms.ensures at c.form_rows.ensures)) (rw c.in_ok-packs.ensures at c.pack_rows.ensures) in
     let none = c.are_none.ensures.0 c.if-are_none.true in
     let no_forms : forms ≡ [] = sym c.deref.ensures.value ∙ none.0 in
     let no_packs : packs ≡ [] = sym c.deref-2.ensures.value ∙ none.1 in
-    answers (tables_held forms_layout (state g.S.Store c.args.conn.now)) asked (Ok c.unknown_day.result)
+    answers (tables_held current_layout (state g.S.Store c.args.conn.now)) asked (Ok c.unknown_day.result)
     (λ known.
     no_day c.args.stream.now c.args.day (omega (arith, c.number.ensures.last)) _ known.0.0 forms packs known.0.1 known.1 no_forms c.unknown_day.result
     (λ unit. subst (λ rows. IsBookOf c.args.stream.now c.args.day unit [] rows c.unknown_day.result) (sym no_packs) (c.unknown_day.ensures unit)))
@@ -33,9 +33,9 @@ returns-clause-book g c =
     let forms = c.in_ok-forms.forms.items in
     let packs = c.in_ok-packs.packs.items in
     let units = c.in_ok-units.units.items in
-    let ready = steady forms_layout (rw c.in_ok-or_unavailable.ensures at c.ready.ensures.ok) c.ready.ensures.survives c.ready.ensures.mode in
+    let ready = steady current_layout (rw c.in_ok-or_unavailable.ensures at c.ready.ensures.ok) c.ready.ensures.survives c.ready.ensures.mode in
     let asked = and_then (and_then (and_then ready (rw c.in_ok-forms.ensures at c.form_rows.ensures)) (rw c.in_ok-packs.ensures at c.pack_rows.ensures)) (rw c.in_ok-units.ensures at c.unit_rows.ensures) in
-    answers (tables_held forms_layout (state g.S.Store c.args.conn.now)) asked c.known_day.result
+    answers (tables_held current_layout (state g.S.Store c.args.conn.now)) asked c.known_day.result
     (λ known.
     let sound = known.0.0.0 in
     IfOk-weaker c.known_day.result (λ book. (row : Row) × (units ≡ row ∷ []) × IsBookOf s day (unit_named (text_at row 0)) forms packs book) _
@@ -45,18 +45,18 @@ returns-clause-book g c =
 
 pub returns-in_err-forms-clause-book : goal.returns-in_err-forms-clause-book
 returns-in_err-forms-clause-book g c =
-    let ready = steady forms_layout (rw c.in_ok-or_unavailable.ensures at c.ready.ensures.ok) c.ready.ensures.survives c.ready.ensures.mode in
-    refused (tables_held forms_layout (state g.S.Store c.args.conn.now)) ready _ c.form_rows.ensures c.in_err-forms.ensures _ _
+    let ready = steady current_layout (rw c.in_ok-or_unavailable.ensures at c.ready.ensures.ok) c.ready.ensures.survives c.ready.ensures.mode in
+    refused (tables_held current_layout (state g.S.Store c.args.conn.now)) ready _ c.form_rows.ensures c.in_err-forms.ensures _ _
     c.from_residual-in_err-forms.ensures.1
 
 pub returns-in_err-packs-clause-book : goal.returns-in_err-packs-clause-book
 returns-in_err-packs-clause-book g c =
-    let ready = steady forms_layout (rw c.in_ok-or_unavailable.ensures at c.ready.ensures.ok) c.ready.ensures.survives c.ready.ensures.mode in
-    refused (tables_held forms_layout (state g.S.Store c.args.conn.now)) (and_then ready (rw c.in_ok-forms.ensures at c.form_rows.ensures)) _ c.pack_rows.ensures c.in_err-packs.ensures _ _
+    let ready = steady current_layout (rw c.in_ok-or_unavailable.ensures at c.ready.ensures.ok) c.ready.ensures.survives c.ready.ensures.mode in
+    refused (tables_held current_layout (state g.S.Store c.args.conn.now)) (and_then ready (rw c.in_ok-forms.ensures at c.form_rows.ensures)) _ c.pack_rows.ensures c.in_err-packs.ensures _ _
     c.from_residual-in_err-packs.ensures.1
 
 pub returns-in_err-units-clause-book : goal.returns-in_err-units-clause-book
 returns-in_err-units-clause-book g c =
-    let ready = steady forms_layout (rw c.in_ok-or_unavailable.ensures at c.ready.ensures.ok) c.ready.ensures.survives c.ready.ensures.mode in
-    refused (tables_held forms_layout (state g.S.Store c.args.conn.now)) (and_then (and_then ready (rw c.in_ok-forms.ensures at c.form_rows.ensures)) (rw c.in_ok-packs.ensures at c.pack_rows.ensures)) _ c.unit_rows.ensures c.in_err-units.ensures _ _
+    let ready = steady current_layout (rw c.in_ok-or_unavailable.ensures at c.ready.ensures.ok) c.ready.ensures.survives c.ready.ensures.mode in
+    refused (tables_held current_layout (state g.S.Store c.args.conn.now)) (and_then (and_then ready (rw c.in_ok-forms.ensures at c.form_rows.ensures)) (rw c.in_ok-packs.ensures at c.pack_rows.ensures)) _ c.unit_rows.ensures c.in_err-units.ensures _ _
     c.from_residual-in_err-units.ensures.1

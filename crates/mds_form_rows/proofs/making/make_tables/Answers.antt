@@ -3,12 +3,12 @@ use Rattle.std.proofs.lemmas.Result.{err_from_is_err_and}
 use Rattle.sqlite.specs.Held.{state}
 use Rattle.mds_tables.proofs.CauseLemmas.{store_fails}
 use Rattle.mds_tables.proofs.MadeLemmas.{leaves_made}
-use Rattle.mds_pack_rows.specs.FormLayout.{forms_layout}
+use Rattle.mds_pack_rows.specs.Current.{current_layout}
 use Rattle.mds_form_rows.proofs.making.make_tables.Goals as goal
 
 pub returns-clause-survives : goal.returns-clause-survives
 returns-clause-survives g c =
-    leaves_made forms_layout (state g.S.Store c.args.conn.now) (state g.S.Store c.ready.new.conn) (state g.S.Store c.make_all.new.conn)
+    leaves_made current_layout (state g.S.Store c.args.conn.now) (state g.S.Store c.ready.new.conn) (state g.S.Store c.make_all.new.conn)
     c.in_ok-ready.ensures.ok c.ready.ensures.survives c.make_all.ensures.survives
 
 pub returns-in_err-ready-clause-cause : goal.returns-in_err-ready-clause-cause

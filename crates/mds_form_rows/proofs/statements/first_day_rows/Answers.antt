@@ -3,7 +3,7 @@ use Rattle.mds_tables.specs.Tables.{form_tree}
 use Rattle.mds_selects.specs.Shown.{rising}
 use Rattle.mds_selects.proofs.FirstLemmas.{finds_first}
 use Rattle.mds_selects.proofs.QueryLemmas.{queried, stream_for}
-use Rattle.mds_pack_rows.specs.FormLayout.{forms_layout}
+use Rattle.mds_pack_rows.specs.Current.{current_layout}
 use Rattle.mds_pack_rows.specs.FormTables.{form_table}
 use Rattle.mds_form_rows.specs.FormRows.{form_day}
 use Rattle.mds_form_rows.proofs.FormNamed.{form_typed}
@@ -12,8 +12,8 @@ use Rattle.mds_form_rows.proofs.statements.first_day_rows.Goals as goal
 
 pub returns : goal.returns
 returns g c =
-    queried forms_layout select_first_day select_first_day_plain _
-    (λ clean. finds_first forms_layout select_first_day select_first_day_plain rising form_tree form_day _
+    queried current_layout select_first_day select_first_day_plain _
+    (λ clean. finds_first current_layout select_first_day select_first_day_plain rising form_tree form_day _
     select_first_day_is (λ db. refl) c.args.stream.now form_table.columns (stream_for c.args.stream.now (drop 2 form_table.columns))
     form_typed _ _ (λ v. v.items) c.query_all.result
     (rw c.stream_cells.ensures at (c.query_all.ensures.ok clean)))

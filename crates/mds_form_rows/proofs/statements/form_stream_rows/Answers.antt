@@ -1,7 +1,7 @@
 use Rattle.std.proofs.Common.{[], refl}
 use Rattle.mds_tables.specs.Tables.{form_tree, stream_columns}
 use Rattle.mds_selects.proofs.QueryLemmas.{finds_rows, queried}
-use Rattle.mds_pack_rows.specs.FormLayout.{forms_layout}
+use Rattle.mds_pack_rows.specs.Current.{current_layout}
 use Rattle.mds_pack_rows.specs.FormTables.{form_table}
 use Rattle.mds_form_rows.proofs.FormNamed.{form_typed}
 use Rattle.mds_form_rows.proofs.FormTexts.{select_form_streams, select_form_streams_is, select_form_streams_plain}
@@ -9,8 +9,8 @@ use Rattle.mds_form_rows.proofs.statements.form_stream_rows.Goals as goal
 
 pub returns : goal.returns
 returns g c =
-    queried forms_layout select_form_streams select_form_streams_plain _
-    (λ clean. finds_rows forms_layout select_form_streams select_form_streams_plain form_tree stream_columns _ (λ db. refl)
+    queried current_layout select_form_streams select_form_streams_plain _
+    (λ clean. finds_rows current_layout select_form_streams select_form_streams_plain form_tree stream_columns _ (λ db. refl)
     [] select_form_streams_is
     form_table.columns tt form_typed _ _ (λ v. v.items) c.query_all.result
     (c.query_all.ensures.ok clean))

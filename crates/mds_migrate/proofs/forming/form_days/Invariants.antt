@@ -1,8 +1,9 @@
-use Rattle.std.proofs.Common.{◌≡◌, ◌≤◌, take}
+use Rattle.std.proofs.Common.{◌≡◌, ◌≤◌, Ok, take}
 use Rattle.sqlite.specs.Held.{state}
-use Rattle.sqlite.specs.State.{KeepsCommit, Survives}
 use Rattle.sqlite_trees.specs.View.{doubt}
-use Rattle.mds_form_rows.specs.FormPutting.{IsThereFormed}
+use Rattle.mds_keeper.specs.declared.keeper.Unavailable.{Unavailable}
+use Rattle.mds_inserts.specs.Frames.{Frames}
+use Rattle.mds_pack_rows.specs.FormTables.{schema_4}
 use Rattle.mds_migrate.specs.Forming.{FormsDays}
 use Rattle.mds_migrate.proofs.forming.form_days.Given as goal
 
@@ -13,7 +14,5 @@ invariant-loop-row g l =
     record {
       same : l.tx.conn.ghost_name ≡ l.fn.tx.conn.ghost_name;
       later : doubt (state g.S.Store l.initial.tx.conn.now).is_clean ≤ doubt now.is_clean;
-      survives : Survives old now (λ _. ⊥);
-      kept : IsThereFormed old now → KeepsCommit old now;
-      forms : FormsDays old now (take l.row-index l.row-items);
+      frames : Frames {X = Unit {0}} {E = Unavailable} schema_4 (λ _. FormsDays old now (take l.row-index l.row-items)) old now (Ok tt);
     }

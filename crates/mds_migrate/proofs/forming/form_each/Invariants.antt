@@ -1,6 +1,8 @@
-use Rattle.std.proofs.Common.{◌≡◌, take}
+use Rattle.std.proofs.Common.{◌≡◌, Ok, take}
 use Rattle.sqlite.specs.Held.{state}
-use Rattle.sqlite.specs.State.{HasCleanDisk, KeepsCommit, Survives}
+use Rattle.mds_keeper.specs.declared.keeper.Unavailable.{Unavailable}
+use Rattle.mds_inserts.specs.Frames.{Frames}
+use Rattle.mds_pack_rows.specs.FormTables.{schema_4}
 use Rattle.mds_migrate.specs.Forming.{PutsForms}
 use Rattle.mds_migrate.proofs.forming.form_each.Given as goal
 
@@ -10,7 +12,5 @@ invariant-loop-pack g l =
     let now = state g.S.Store l.tx.conn.now in
     record {
       same : l.tx.conn.ghost_name ≡ l.fn.tx.conn.ghost_name;
-      kept : HasCleanDisk now → KeepsCommit old now;
-      survives : Survives old now (λ _. ⊥);
-      forms : PutsForms old now l.fn.head (take l.pack-index l.packs);
+      frames : Frames {X = Unit {0}} {E = Unavailable} schema_4 (λ _. PutsForms old now l.fn.head (take l.pack-index l.packs)) old now (Ok tt);
     }

@@ -38,22 +38,22 @@ pub if_current-requires-clause-settled : goal.if_current-requires-clause-settled
 if_current-requires-clause-settled g c = c.is_autocommit.ensures.settled c.if-not-is_autocommit.false
 
 pub if_current-requires-clause-schema : goal.if_current-requires-clause-schema
-if_current-requires-clause-schema g c = sym c.schema.ensures.value ∙ is_so _ c.has_schema_4.result c.if-has_schema_4.true c.has_schema_4.ensures
+if_current-requires-clause-schema g c = sym c.schema.ensures.value ∙ is_so _ c.has_schema-is_fourth.result c.if-is_fourth.true c.has_schema-is_fourth.ensures
 
-pub returns-then-has_schema_4-clause-done : goal.returns-then-has_schema_4-clause-done
-returns-then-has_schema_4-clause-done g c = c.if_current.ensures.done
+pub returns-then-is_fourth-clause-done : goal.returns-then-is_fourth-clause-done
+returns-then-is_fourth-clause-done g c = c.if_current.ensures.done
 
-pub returns-then-has_schema_4-clause-err : goal.returns-then-has_schema_4-clause-err
-returns-then-has_schema_4-clause-err g c = c.if_current.ensures.err
+pub returns-then-is_fourth-clause-err : goal.returns-then-is_fourth-clause-err
+returns-then-is_fourth-clause-err g c = c.if_current.ensures.err
 
-pub returns-then-has_schema_4-clause-settled : goal.returns-then-has_schema_4-clause-settled
-returns-then-has_schema_4-clause-settled g c = each_err c.if_current.result _ (λ _ _. c.is_autocommit.ensures.settled c.if-not-is_autocommit.false)
+pub returns-then-is_fourth-clause-settled : goal.returns-then-is_fourth-clause-settled
+returns-then-is_fourth-clause-settled g c = each_err c.if_current.result _ (λ _ _. c.is_autocommit.ensures.settled c.if-not-is_autocommit.false)
 
-pub returns-then-has_schema_4-clause-mode : goal.returns-then-has_schema_4-clause-mode
-returns-then-has_schema_4-clause-mode g c = c.if_current.ensures.mode ∙ sym (not-true _ (sym c.is_autocommit.ensures.value ∙ c.if-not-is_autocommit.false))
+pub returns-then-is_fourth-clause-mode : goal.returns-then-is_fourth-clause-mode
+returns-then-is_fourth-clause-mode g c = c.if_current.ensures.mode ∙ sym (not-true _ (sym c.is_autocommit.ensures.value ∙ c.if-not-is_autocommit.false))
 
-pub returns-then-has_schema_4-clause-survives : goal.returns-then-has_schema_4-clause-survives
-returns-then-has_schema_4-clause-survives g c = leaves_none (state g.S.Store c.args.conn.now) (state g.S.Store c.if_current.new.conn) _ c.if_current.ensures.survives
+pub returns-then-is_fourth-clause-survives : goal.returns-then-is_fourth-clause-survives
+returns-then-is_fourth-clause-survives g c = leaves_none (state g.S.Store c.args.conn.now) (state g.S.Store c.if_current.new.conn) _ c.if_current.ensures.survives
 
 pub if_daily-requires-clause-mode : goal.if_daily-requires-clause-mode
 if_daily-requires-clause-mode g c = not-true _ (sym c.is_autocommit.ensures.value ∙ c.if-not-is_autocommit.false)
@@ -62,22 +62,22 @@ pub if_daily-requires-clause-settled : goal.if_daily-requires-clause-settled
 if_daily-requires-clause-settled g c = c.is_autocommit.ensures.settled c.if-not-is_autocommit.false
 
 pub if_daily-requires-clause-schema : goal.if_daily-requires-clause-schema
-if_daily-requires-clause-schema g c = sym c.schema-2.ensures.value ∙ is_so _ c.has_schema_3.result c.if-has_schema_3.true c.has_schema_3.ensures
+if_daily-requires-clause-schema g c = sym c.schema-2.ensures.value ∙ is_so _ c.has_schema-is_third.result c.if-is_third.true c.has_schema-is_third.ensures
 
-pub returns-then-has_schema_3-clause-done : goal.returns-then-has_schema_3-clause-done
-returns-then-has_schema_3-clause-done g c = c.if_daily.ensures.done
+pub returns-then-is_third-clause-done : goal.returns-then-is_third-clause-done
+returns-then-is_third-clause-done g c = c.if_daily.ensures.done
 
-pub returns-then-has_schema_3-clause-err : goal.returns-then-has_schema_3-clause-err
-returns-then-has_schema_3-clause-err g c = c.if_daily.ensures.err
+pub returns-then-is_third-clause-err : goal.returns-then-is_third-clause-err
+returns-then-is_third-clause-err g c = c.if_daily.ensures.err
 
-pub returns-then-has_schema_3-clause-settled : goal.returns-then-has_schema_3-clause-settled
-returns-then-has_schema_3-clause-settled g c = each_err c.if_daily.result _ (λ _ _. c.is_autocommit.ensures.settled c.if-not-is_autocommit.false)
+pub returns-then-is_third-clause-settled : goal.returns-then-is_third-clause-settled
+returns-then-is_third-clause-settled g c = each_err c.if_daily.result _ (λ _ _. c.is_autocommit.ensures.settled c.if-not-is_autocommit.false)
 
-pub returns-then-has_schema_3-clause-mode : goal.returns-then-has_schema_3-clause-mode
-returns-then-has_schema_3-clause-mode g c = c.if_daily.ensures.mode ∙ sym (not-true _ (sym c.is_autocommit.ensures.value ∙ c.if-not-is_autocommit.false))
+pub returns-then-is_third-clause-mode : goal.returns-then-is_third-clause-mode
+returns-then-is_third-clause-mode g c = c.if_daily.ensures.mode ∙ sym (not-true _ (sym c.is_autocommit.ensures.value ∙ c.if-not-is_autocommit.false))
 
-pub returns-then-has_schema_3-clause-survives : goal.returns-then-has_schema_3-clause-survives
-returns-then-has_schema_3-clause-survives g c = c.if_daily.ensures.survives
+pub returns-then-is_third-clause-survives : goal.returns-then-is_third-clause-survives
+returns-then-is_third-clause-survives g c = c.if_daily.ensures.survives
 
 pub if_packed-requires-clause-mode : goal.if_packed-requires-clause-mode
 if_packed-requires-clause-mode g c = not-true _ (sym c.is_autocommit.ensures.value ∙ c.if-not-is_autocommit.false)
@@ -86,22 +86,22 @@ pub if_packed-requires-clause-settled : goal.if_packed-requires-clause-settled
 if_packed-requires-clause-settled g c = c.is_autocommit.ensures.settled c.if-not-is_autocommit.false
 
 pub if_packed-requires-clause-schema : goal.if_packed-requires-clause-schema
-if_packed-requires-clause-schema g c = sym c.schema-3.ensures.value ∙ is_so _ c.has_schema_2.result c.if-has_schema_2.true c.has_schema_2.ensures
+if_packed-requires-clause-schema g c = sym c.schema-3.ensures.value ∙ is_so _ c.has_schema-is_second.result c.if-is_second.true c.has_schema-is_second.ensures
 
-pub returns-then-has_schema_2-clause-done : goal.returns-then-has_schema_2-clause-done
-returns-then-has_schema_2-clause-done g c = c.if_packed.ensures.done
+pub returns-then-is_second-clause-done : goal.returns-then-is_second-clause-done
+returns-then-is_second-clause-done g c = c.if_packed.ensures.done
 
-pub returns-then-has_schema_2-clause-err : goal.returns-then-has_schema_2-clause-err
-returns-then-has_schema_2-clause-err g c = c.if_packed.ensures.err
+pub returns-then-is_second-clause-err : goal.returns-then-is_second-clause-err
+returns-then-is_second-clause-err g c = c.if_packed.ensures.err
 
-pub returns-then-has_schema_2-clause-settled : goal.returns-then-has_schema_2-clause-settled
-returns-then-has_schema_2-clause-settled g c = each_err c.if_packed.result _ (λ _ _. c.is_autocommit.ensures.settled c.if-not-is_autocommit.false)
+pub returns-then-is_second-clause-settled : goal.returns-then-is_second-clause-settled
+returns-then-is_second-clause-settled g c = each_err c.if_packed.result _ (λ _ _. c.is_autocommit.ensures.settled c.if-not-is_autocommit.false)
 
-pub returns-then-has_schema_2-clause-mode : goal.returns-then-has_schema_2-clause-mode
-returns-then-has_schema_2-clause-mode g c = c.if_packed.ensures.mode ∙ sym (not-true _ (sym c.is_autocommit.ensures.value ∙ c.if-not-is_autocommit.false))
+pub returns-then-is_second-clause-mode : goal.returns-then-is_second-clause-mode
+returns-then-is_second-clause-mode g c = c.if_packed.ensures.mode ∙ sym (not-true _ (sym c.is_autocommit.ensures.value ∙ c.if-not-is_autocommit.false))
 
-pub returns-then-has_schema_2-clause-survives : goal.returns-then-has_schema_2-clause-survives
-returns-then-has_schema_2-clause-survives g c = c.if_packed.ensures.survives
+pub returns-then-is_second-clause-survives : goal.returns-then-is_second-clause-survives
+returns-then-is_second-clause-survives g c = c.if_packed.ensures.survives
 
 pub if_first-requires-clause-mode : goal.if_first-requires-clause-mode
 if_first-requires-clause-mode g c = not-true _ (sym c.is_autocommit.ensures.value ∙ c.if-not-is_autocommit.false)
@@ -110,7 +110,7 @@ pub if_first-requires-clause-settled : goal.if_first-requires-clause-settled
 if_first-requires-clause-settled g c = c.is_autocommit.ensures.settled c.if-not-is_autocommit.false
 
 pub if_first-requires-clause-schema : goal.if_first-requires-clause-schema
-if_first-requires-clause-schema g c = sym c.schema-4.ensures.value ∙ is_so _ c.has_schema_1.result c.if-not-has_schema_1.false c.has_schema_1.ensures
+if_first-requires-clause-schema g c = sym c.schema-4.ensures.value ∙ is_so _ c.has_schema-is_first.result c.if-not-is_first.false c.has_schema-is_first.ensures
 
 pub returns-clause-done : goal.returns-clause-done
 returns-clause-done g c = c.if_first.ensures.done
@@ -127,23 +127,23 @@ returns-clause-mode g c = c.if_first.ensures.mode ∙ sym (not-true _ (sym c.is_
 pub returns-clause-survives : goal.returns-clause-survives
 returns-clause-survives g c = c.if_first.ensures.survives
 
-pub returns-then-not-has_schema_1-clause-done : goal.returns-then-not-has_schema_1-clause-done
-returns-then-not-has_schema_1-clause-done g c = tt
+pub returns-then-not-is_first-clause-done : goal.returns-then-not-is_first-clause-done
+returns-then-not-is_first-clause-done g c = tt
 
-pub returns-then-not-has_schema_1-clause-err : goal.returns-then-not-has_schema_1-clause-err
-returns-then-not-has_schema_1-clause-err g c = λ _. (
+pub returns-then-not-is_first-clause-err : goal.returns-then-not-is_first-clause-err
+returns-then-not-is_first-clause-err g c = λ _. (
   keeps_same (state g.S.Store c.args.conn.now),
-  (λ is. isnt_so _ c.has_schema_1.result c.if-not-has_schema_1.true c.has_schema_1.ensures (c.schema-4.ensures.value ∙ is.schema)),
-  (λ is. isnt_so _ c.has_schema_2.result c.if-has_schema_2.false c.has_schema_2.ensures (c.schema-3.ensures.value ∙ is.store.schema)),
-  (λ is. isnt_so _ c.has_schema_3.result c.if-has_schema_3.false c.has_schema_3.ensures (c.schema-2.ensures.value ∙ is.store.schema)),
-  (λ is. isnt_so _ c.has_schema_4.result c.if-has_schema_4.false c.has_schema_4.ensures (c.schema.ensures.value ∙ is.store.schema)),
+  (λ is. isnt_so _ c.has_schema-is_first.result c.if-not-is_first.true c.has_schema-is_first.ensures (c.schema-4.ensures.value ∙ is.schema)),
+  (λ is. isnt_so _ c.has_schema-is_second.result c.if-is_second.false c.has_schema-is_second.ensures (c.schema-3.ensures.value ∙ is.store.schema)),
+  (λ is. isnt_so _ c.has_schema-is_third.result c.if-is_third.false c.has_schema-is_third.ensures (c.schema-2.ensures.value ∙ is.store.schema)),
+  (λ is. isnt_so _ c.has_schema-is_fourth.result c.if-is_fourth.false c.has_schema-is_fourth.ensures (c.schema.ensures.value ∙ is.store.schema)),
 )
 
-pub returns-then-not-has_schema_1-clause-settled : goal.returns-then-not-has_schema_1-clause-settled
-returns-then-not-has_schema_1-clause-settled g c = λ _. c.is_autocommit.ensures.settled c.if-not-is_autocommit.false
+pub returns-then-not-is_first-clause-settled : goal.returns-then-not-is_first-clause-settled
+returns-then-not-is_first-clause-settled g c = λ _. c.is_autocommit.ensures.settled c.if-not-is_autocommit.false
 
-pub returns-then-not-has_schema_1-clause-mode : goal.returns-then-not-has_schema_1-clause-mode
-returns-then-not-has_schema_1-clause-mode g c = refl
+pub returns-then-not-is_first-clause-mode : goal.returns-then-not-is_first-clause-mode
+returns-then-not-is_first-clause-mode g c = refl
 
-pub returns-then-not-has_schema_1-clause-survives : goal.returns-then-not-has_schema_1-clause-survives
-returns-then-not-has_schema_1-clause-survives g c = leaves_none (state g.S.Store c.args.conn.now) (state g.S.Store c.args.conn.now) _ (survives_same (state g.S.Store c.args.conn.now))
+pub returns-then-not-is_first-clause-survives : goal.returns-then-not-is_first-clause-survives
+returns-then-not-is_first-clause-survives g c = leaves_none (state g.S.Store c.args.conn.now) (state g.S.Store c.args.conn.now) _ (survives_same (state g.S.Store c.args.conn.now))

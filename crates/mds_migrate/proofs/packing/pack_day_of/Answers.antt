@@ -1,69 +1,35 @@
-use Rattle.std.proofs.Common.{subst, arith, ◌∙◌, refl}
+use Rattle.std.proofs.Common.{map, subst, arith}
 use Rattle.sqlite.specs.Held.{state}
+use Rattle.mds_keeper.specs.Content.{version_at, version_fact}
+use Rattle.mds_inserts.proofs.FrameLemmas.{frames_refused, frames_stop, frames_then}
 use Rattle.mds_selects.specs.Shown.{AreVersionsIn}
-use Rattle.mds_pack_rows.proofs.PutLemmas.{if_ok, kept_since}
+use Rattle.mds_pack_rows.specs.PacksLayout.{nothing_behind}
+use Rattle.mds_pack_rows.proofs.FrameLemmas.{frames_packs}
 use Rattle.mds_migrate.proofs.PackingLemmas.{packs_day}
-use Rattle.std.proofs.lemmas.Result.{IfOk-from_err}
-use Rattle.mds_tables.proofs.CallLemmas.{keeps_same, survives_more, survives_same}
 use Rattle.mds_migrate.proofs.packing.pack_day_of.Goals as goal
 
-pub returns-clause-ok : goal.returns-clause-ok
-returns-clause-ok g c =
+pub returns-in_err-head-clause-frames : goal.returns-in_err-head-clause-frames
+returns-in_err-head-clause-frames g c =
+    frames_refused (state g.S.Store c.args.tx.now.conn.now) c.from_residual.result c.from_residual.ensures.0
+
+pub returns-in_err-rows-clause-frames : goal.returns-in_err-rows-clause-frames
+returns-in_err-rows-clause-frames g c =
+    frames_stop c.from_residual-in_err-rows.result c.from_residual-in_err-rows.ensures.0 c.version_rows.ensures.frames
+
+pub returns-in_err-all_versions-clause-frames : goal.returns-in_err-all_versions-clause-frames
+returns-in_err-all_versions-clause-frames g c =
+    frames_stop c.from_residual-in_err-all_versions.result c.from_residual-in_err-all_versions.ensures.0 c.version_rows.ensures.frames
+
+pub returns-clause-frames : goal.returns-clause-frames
+returns-clause-frames g c =
+    let a = state g.S.Store c.args.tx.now.conn.now in
+    let b = state g.S.Store c.version_rows.new.tx.conn.now in
+    let d = state g.S.Store c.put_day.new.tx.conn.now in
+    let head = c.in_ok-head.head in
     let versions = c.in_ok-all_versions.field-0.items in
-    if_ok c.put_day.result _ _
-    (packs_day (state g.S.Store c.args.tx.now.conn.now) (state g.S.Store c.version_rows.new.tx.conn.now) (state g.S.Store c.put_day.new.tx.conn.now)
-    c.put_day.ensures.survives.clean (λ clean. (c.in_ok-rows.ensures.ok clean).same) c.in_ok-rows.ensures.goes_on c.args.row.now c.in_ok-head.head
-    (rw c.in_ok-head.ensures at c.head_in.ensures.some) (omega (arith, c.number.ensures.last)) c.in_ok-rows.rows.items versions
-    (subst (λ rows. AreVersionsIn c.in_ok-head.head.length rows versions) c.as_slice.ensures.value c.in_ok-all_versions.ensures) c.in_ok-rows.ensures.ok)
-    c.put_day.ensures.ok
-
-pub returns-in_err-rows-clause-kept : goal.returns-in_err-rows-clause-kept
-returns-in_err-rows-clause-kept g c there = c.version_rows.ensures.kept there.clean there.rest.more there.schema
-
-pub returns-in_err-all_versions-clause-kept : goal.returns-in_err-all_versions-clause-kept
-returns-in_err-all_versions-clause-kept g c there = c.version_rows.ensures.kept there.clean there.rest.more there.schema
-
-pub returns-clause-kept : goal.returns-clause-kept
-returns-clause-kept g c there =
-    let later = c.put_day.ensures.survives.clean in
-    kept_since (state g.S.Store c.args.tx.now.conn.now) (state g.S.Store c.version_rows.new.tx.conn.now) (state g.S.Store c.put_day.new.tx.conn.now)
-    later (λ clean. (c.in_ok-rows.ensures.ok clean).same)
-    (c.version_rows.ensures.kept (omega (arith, there.clean, later)) there.rest.more there.schema) c.put_day.ensures.kept there
-
-pub returns-in_err-head-clause-same_reference : goal.returns-in_err-head-clause-same_reference
-returns-in_err-head-clause-same_reference g c = refl
-
-pub returns-in_err-head-clause-ok : goal.returns-in_err-head-clause-ok
-returns-in_err-head-clause-ok g c = IfOk-from_err c.from_residual.result _ c.from_residual.ensures.0
-
-pub returns-in_err-head-clause-kept : goal.returns-in_err-head-clause-kept
-returns-in_err-head-clause-kept g c = λ _. keeps_same (state g.S.Store c.args.tx.now.conn.now)
-
-pub returns-in_err-head-clause-survives : goal.returns-in_err-head-clause-survives
-returns-in_err-head-clause-survives g c = survives_same (state g.S.Store c.args.tx.now.conn.now)
-
-pub returns-in_err-rows-clause-same_reference : goal.returns-in_err-rows-clause-same_reference
-returns-in_err-rows-clause-same_reference g c = c.version_rows.ensures.same_reference
-
-pub returns-in_err-rows-clause-ok : goal.returns-in_err-rows-clause-ok
-returns-in_err-rows-clause-ok g c = IfOk-from_err c.from_residual-in_err-rows.result _ c.from_residual-in_err-rows.ensures.0
-
-pub returns-in_err-rows-clause-survives : goal.returns-in_err-rows-clause-survives
-returns-in_err-rows-clause-survives g c = c.version_rows.ensures.survives
-
-pub returns-in_err-all_versions-clause-same_reference : goal.returns-in_err-all_versions-clause-same_reference
-returns-in_err-all_versions-clause-same_reference g c = c.version_rows.ensures.same_reference
-
-pub returns-in_err-all_versions-clause-ok : goal.returns-in_err-all_versions-clause-ok
-returns-in_err-all_versions-clause-ok g c = IfOk-from_err c.from_residual-in_err-all_versions.result _ c.from_residual-in_err-all_versions.ensures.0
-
-pub returns-in_err-all_versions-clause-survives : goal.returns-in_err-all_versions-clause-survives
-returns-in_err-all_versions-clause-survives g c = c.version_rows.ensures.survives
-
-pub returns-clause-same_reference : goal.returns-clause-same_reference
-returns-clause-same_reference g c = c.put_day.ensures.same_reference ∙ c.version_rows.ensures.same_reference
-
-pub returns-clause-survives : goal.returns-clause-survives
-returns-clause-survives g c =
-    survives_more (state g.S.Store c.args.tx.now.conn.now) (state g.S.Store c.version_rows.new.tx.conn.now) (state g.S.Store c.put_day.new.tx.conn.now)
-    c.version_rows.ensures.survives c.put_day.ensures.survives
+    let put = frames_packs nothing_behind b d (map version_fact (map (version_at head.stream head.day) versions)) c.put_day.result
+    c.put_day.ensures.ok c.put_day.ensures.kept c.put_day.ensures.survives in
+    frames_then (λ _ at _ _ found puts. packs_day a b d at c.args.row.now head (rw c.in_ok-head.ensures at c.head_in.ensures.some)
+    (omega (arith, c.number.ensures.last)) c.in_ok-rows.rows.items versions
+    (subst (λ rows. AreVersionsIn head.length rows versions) c.as_slice.ensures.value c.in_ok-all_versions.ensures) found puts)
+    c.in_ok-rows.ensures.frames put

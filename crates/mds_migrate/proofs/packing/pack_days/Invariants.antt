@@ -1,8 +1,9 @@
-use Rattle.std.proofs.Common.{◌≡◌, ◌≤◌, take}
+use Rattle.std.proofs.Common.{◌≡◌, ◌≤◌, Ok, take}
 use Rattle.sqlite.specs.Held.{state}
-use Rattle.sqlite.specs.State.{KeepsCommit, Survives}
 use Rattle.sqlite_trees.specs.View.{doubt}
-use Rattle.mds_pack_rows.specs.Putting.{IsThere}
+use Rattle.mds_keeper.specs.declared.keeper.Unavailable.{Unavailable}
+use Rattle.mds_inserts.specs.Frames.{Frames}
+use Rattle.mds_pack_rows.specs.PackTables.{schema_2}
 use Rattle.mds_migrate.specs.Packing.{PacksDays}
 use Rattle.mds_migrate.proofs.packing.pack_days.Given as goal
 
@@ -13,7 +14,5 @@ invariant-loop-row g l =
     record {
       same : l.tx.conn.ghost_name ≡ l.fn.tx.conn.ghost_name;
       later : doubt (state g.S.Store l.initial.tx.conn.now).is_clean ≤ doubt now.is_clean;
-      survives : Survives old now (λ _. ⊥);
-      kept : IsThere old now → KeepsCommit old now;
-      packs : PacksDays old now (take l.row-index l.row-items);
+      frames : Frames {X = Unit {0}} {E = Unavailable} schema_2 (λ _. PacksDays old now (take l.row-index l.row-items)) old now (Ok tt);
     }

@@ -10,7 +10,8 @@ use Rattle.sqlite.proofs.InsideLemmas.{keeps_then, unchanged_keeps}
 use Rattle.sqlite.proofs.StateLemmas.{survives_then}
 use Rattle.sqlite_trees.specs.View.{doubt}
 use Rattle.mds_tables.proofs.CallLemmas.{survives_more}
-use Rattle.mds_migrate.specs.Migrated.{IsFor, LeavesWritten, Step, TakesOn, Writes}
+use Rattle.mds_inserts.specs.Frames.{IsAt}
+use Rattle.mds_migrate.specs.Migrated.{IsFor, LeavesWritten, Step, Writes}
 use Rattle.mds_migrate.proofs.step.write.Goals as goal
 
 -- a commit that failed committed nothing
@@ -26,6 +27,11 @@ module _ (step : Step) (start begins mid new : State) (is : begins ≡ record st
   begun_for : IsFor step start.now → IsFor step begins.now
   begun_for = subst (λ (s : State). IsFor step s.now) (sym is)
 
+  begun_at : IsTrue start.is_open → IsFor step start.now → IsAt step.under begins
+  begun_at is_open first =
+      let it = begun_for first in
+      record { is_open = rw is is_open; schema = step.fits begins.now it.store; sound = it.sound }
+
   begun_survives : Survives start begins (λ _. ⊥)
   begun_survives = subst (λ (s : State). Survives start s (λ _. ⊥)) (sym is) (record {
     clean = omega arith;
@@ -36,13 +42,17 @@ module _ (step : Step) (start begins mid new : State) (is : begins ≡ record st
     crash = λ _ db may. inl may;
   })
 
+  -- all parts were done
+  abbrev Done : Type 0
+  Done = HasCleanDisk mid → IsAt step.under begins → IsAt step.to mid × (IsFor step begins.now → step.Has begins.now.trees mid.now.trees)
+
   -- nothing is committed
   nothing_kept : doubt mid.is_clean ≤ doubt new.is_clean
-      → (HasCleanDisk mid → IsTrue begins.is_open → IsFor step begins.now → KeepsCommit begins mid) → (HasCleanDisk new → KeepsCommit mid new)
+      → (HasCleanDisk mid → IsAt step.under begins → KeepsCommit begins mid) → (HasCleanDisk new → KeepsCommit mid new)
       → HasCleanDisk new → IsTrue start.is_open → IsFor step start.now → KeepsCommit start new
   nothing_kept later kept ended clean is_open first =
       let early : HasCleanDisk mid = omega (arith, clean, later) in
-      keeps_then start mid new (keeps_then start begins mid begun_keeps (kept early (rw is is_open) (begun_for first))) (ended clean)
+      keeps_then start mid new (keeps_then start begins mid begun_keeps (kept early (begun_at is_open first))) (ended clean)
 
   nothing_left : Survives begins mid (λ _. ⊥) → Survives mid new (λ _. ⊥) → Survives start new (LeavesWritten step start)
   nothing_left one two =
@@ -50,26 +60,25 @@ module _ (step : Step) (start begins mid new : State) (is : begins ≡ record st
       (survives_more start begins mid begun_survives one) two
 
   -- a crash leaves what was written, or nothing of it
-  left : Survives begins mid (λ _. ⊥) → Survives mid new (λ db. db ≡ mid.now.trees) → TakesOn step begins mid
-      → Survives start new (LeavesWritten step start)
+  left : Survives begins mid (λ _. ⊥) → Survives mid new (λ db. db ≡ mid.now.trees) → Done → Survives start new (LeavesWritten step start)
   left one two takes =
       survives_then start mid new (λ _. ⊥) (λ db. db ≡ mid.now.trees) (LeavesWritten step start) (λ _ db none. absurd none)
       (λ clean db same is_open first.
       let early : HasCleanDisk mid = omega (arith, clean, two.clean) in
-      let has = takes.taken early (rw is is_open) (begun_for first) in
+      let has = (takes early (begun_at is_open first)).1 (begun_for first) in
       subst (λ trees. step.Has start.now.trees trees) (sym same)
       (subst (λ (s : State). step.Has s.now.trees mid.now.trees) is has))
       (survives_more start begins mid begun_survives one) two
 
-  written : doubt mid.is_clean ≤ doubt new.is_clean → TakesOn step begins mid → HasCleanDisk new → Shows mid new mid.now mid.now false
+  written : doubt mid.is_clean ≤ doubt new.is_clean → Done → HasCleanDisk new → Shows mid new mid.now mid.now false
       → Writes step start new
   written later takes clean shows =
       let early : HasCleanDisk mid = omega (arith, clean, later) in
       record {
         is_open = λ _. shows.is_open;
-        schema = λ is_open first. ap (λ (db : Database). db.schema) shows.committed_is ∙ takes.schema early (rw is is_open) (begun_for first);
+        schema = λ is_open first. ap (λ (db : Database). db.schema) shows.committed_is ∙ (takes early (begun_at is_open first)).0.schema;
         taken = λ is_open first.
-            let has = takes.taken early (rw is is_open) (begun_for first) in
+            let has = (takes early (begun_at is_open first)).1 (begun_for first) in
             subst (λ (db : Database). step.Has start.now.trees db.trees) (sym shows.committed_is)
             (subst (λ (s : State). step.Has s.now.trees mid.now.trees) is has);
       }
@@ -84,8 +93,8 @@ returns-in_err-take_on-clause-err g c =
     let new = state g.S.Store c.drop-tx.new.self.0 in
     let kept : HasCleanDisk new → IsTrue old.is_open → IsFor g.T.Stage.step old.now → OnErr c.from_residual.result (KeepsCommit old new) =
     λ clean is_open first. on_err_from c.from_residual.result _
-    (nothing_kept _ old (state g.S.Store c.transaction-tx.result.conn.now) mid new (ap (state g.S.Store) c.transaction-tx.ensures.begun)
-    c.drop-tx.ensures.survives.clean c.take_on.ensures.kept (λ clean. unchanged_keeps mid new (inr (c.drop-tx.ensures.undone clean))) clean is_open first) in
+    (nothing_kept g.T.Stage.step old (state g.S.Store c.transaction-tx.result.conn.now) mid new (ap (state g.S.Store) c.transaction-tx.ensures.begun)
+    c.drop-tx.ensures.survives.clean c.take_on.ensures.moves.kept (λ clean. unchanged_keeps mid new (inr (c.drop-tx.ensures.undone clean))) clean is_open first) in
     search rules
 
 pub returns-in_err-take_on-clause-mode : goal.returns-in_err-take_on-clause-mode
@@ -97,7 +106,7 @@ returns-in_err-take_on-clause-survives g c =
     let mid = state g.S.Store c.take_on.new.tx.conn.now in
     let new = state g.S.Store c.drop-tx.new.self.0 in
     let survives : Survives old new (LeavesWritten g.T.Stage.step old) =
-    nothing_left _ old (state g.S.Store c.transaction-tx.result.conn.now) mid new (ap (state g.S.Store) c.transaction-tx.ensures.begun) c.take_on.ensures.survives c.drop-tx.ensures.survives in
+    nothing_left g.T.Stage.step old (state g.S.Store c.transaction-tx.result.conn.now) mid new (ap (state g.S.Store) c.transaction-tx.ensures.begun) c.take_on.ensures.moves.survives c.drop-tx.ensures.survives in
     search rules
 
 pub returns-in_err-or_unavailable-clause-ok : goal.returns-in_err-or_unavailable-clause-ok
@@ -111,8 +120,8 @@ returns-in_err-or_unavailable-clause-err g c =
     let kept : HasCleanDisk new → IsTrue old.is_open → IsFor g.T.Stage.step old.now
     → OnErr c.from_residual-in_err-or_unavailable.result (KeepsCommit old new) =
     λ clean is_open first. on_err_from c.from_residual-in_err-or_unavailable.result _
-    (nothing_kept _ old (state g.S.Store c.transaction-tx.result.conn.now) mid new (ap (state g.S.Store) c.transaction-tx.ensures.begun)
-    c.commit.ensures.survives.clean c.take_on.ensures.kept
+    (nothing_kept g.T.Stage.step old (state g.S.Store c.transaction-tx.result.conn.now) mid new (ap (state g.S.Store) c.transaction-tx.ensures.begun)
+    c.commit.ensures.survives.clean c.take_on.ensures.moves.kept
     (λ clean. failed_keeps mid new c.commit.result c.in_err-or_unavailable.ensures (c.commit.ensures.err clean)) clean is_open first) in
     search rules
 
@@ -125,8 +134,8 @@ returns-in_err-or_unavailable-clause-survives g c =
     let mid = state g.S.Store c.take_on.new.tx.conn.now in
     let new = state g.S.Store c.commit.new.self.0 in
     let survives : Survives old new (LeavesWritten g.T.Stage.step old) =
-    left _ old (state g.S.Store c.transaction-tx.result.conn.now) mid new (ap (state g.S.Store) c.transaction-tx.ensures.begun)
-    c.take_on.ensures.survives c.commit.ensures.survives c.in_ok-take_on.ensures.ok in
+    left g.T.Stage.step old (state g.S.Store c.transaction-tx.result.conn.now) mid new (ap (state g.S.Store) c.transaction-tx.ensures.begun)
+    c.take_on.ensures.moves.survives c.commit.ensures.survives c.in_ok-take_on.ensures.moves.done in
     search rules
 
 pub returns-clause-ok : goal.returns-clause-ok
@@ -135,8 +144,8 @@ returns-clause-ok g c =
     let mid = state g.S.Store c.take_on.new.tx.conn.now in
     let new = state g.S.Store c.commit.new.self.0 in
     let writes : HasCleanDisk new → Writes g.T.Stage.step old new =
-    λ clean. written _ old (state g.S.Store c.transaction-tx.result.conn.now) mid new (ap (state g.S.Store) c.transaction-tx.ensures.begun)
-    c.commit.ensures.survives.clean c.in_ok-take_on.ensures.ok clean (IfOk-at_ok _ c.in_ok-or_unavailable.ensures (c.commit.ensures.ok clean)).1 in
+    λ clean. written g.T.Stage.step old (state g.S.Store c.transaction-tx.result.conn.now) mid new (ap (state g.S.Store) c.transaction-tx.ensures.begun)
+    c.commit.ensures.survives.clean c.in_ok-take_on.ensures.moves.done clean (IfOk-at_ok _ c.in_ok-or_unavailable.ensures (c.commit.ensures.ok clean)).1 in
     search rules
 
 pub returns-clause-err : goal.returns-clause-err
@@ -151,6 +160,6 @@ returns-clause-survives g c =
     let mid = state g.S.Store c.take_on.new.tx.conn.now in
     let new = state g.S.Store c.commit.new.self.0 in
     let survives : Survives old new (LeavesWritten g.T.Stage.step old) =
-    left _ old (state g.S.Store c.transaction-tx.result.conn.now) mid new (ap (state g.S.Store) c.transaction-tx.ensures.begun)
-    c.take_on.ensures.survives c.commit.ensures.survives c.in_ok-take_on.ensures.ok in
+    left g.T.Stage.step old (state g.S.Store c.transaction-tx.result.conn.now) mid new (ap (state g.S.Store) c.transaction-tx.ensures.begun)
+    c.take_on.ensures.moves.survives c.commit.ensures.survives c.in_ok-take_on.ensures.moves.done in
     search rules

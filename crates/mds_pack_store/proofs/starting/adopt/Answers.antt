@@ -3,9 +3,8 @@ use Rattle.std.proofs.Common.{rules, inl, inr, arith, ◌∙◌, refl, sym, true
 use Rattle.sqlite.specs.Held.{state}
 use Rattle.sqlite.specs.State.{HasCleanDisk}
 use Rattle.mds_tables.specs.Stores.{HoldsTablesOf}
+use Rattle.mds_pack_rows.specs.Current.{current_layout, current_schema}
 use Rattle.mds_pack_rows.specs.DailyLayout.{daily_layout}
-use Rattle.mds_pack_rows.specs.FormLayout.{forms_layout}
-use Rattle.mds_pack_rows.specs.FormTables.{schema_4}
 use Rattle.mds_pack_rows.proofs.TwoSchemas.{not_of}
 use Rattle.mds_tables.specs.Layouts.{rows_layout}
 use Rattle.mds_pack_rows.specs.PacksLayout.{packs_layout}
@@ -22,24 +21,24 @@ isnt_so P false is told = told
 
 pub returns-in-Ok-true-clause-survives : goal.returns-in-Ok-true-clause-survives
 returns-in-Ok-true-clause-survives g c =
-    let held : HoldsTablesOf forms_layout (state g.S.Store c.args.conn) = search rules in
+    let held : HoldsTablesOf current_layout (state g.S.Store c.args.conn) = search rules in
     rw c.over.ensures (c.are_formed.ensures.answers.survives held)
 
 pub returns-in-Ok-false-clause-survives : goal.returns-in-Ok-false-clause-survives
 returns-in-Ok-false-clause-survives g c =
-    let held : HoldsTablesOf forms_layout (state g.S.Store c.args.conn) = search rules in
+    let held : HoldsTablesOf current_layout (state g.S.Store c.args.conn) = search rules in
     c.are_formed.ensures.answers.survives held
 
 pub returns-in-Err-clause-survives : goal.returns-in-Err-clause-survives
 returns-in-Err-clause-survives g c =
-    let held : HoldsTablesOf forms_layout (state g.S.Store c.args.conn) = search rules in
+    let held : HoldsTablesOf current_layout (state g.S.Store c.args.conn) = search rules in
     c.are_formed.ensures.answers.survives held
 
 pub over-requires-clause-holds : goal.over-requires-clause-holds
 over-requires-clause-holds g c =
     let old = state g.S.Store c.args.conn in
     let new = state g.S.Store c.are_formed.new.conn in
-    let held : HoldsTablesOf forms_layout old = search rules in
+    let held : HoldsTablesOf current_layout old = search rules in
     let formed : HasCleanDisk new → AreFormed old.committed.trees = λ clean. let it = c.in-Ok-true.ensures.answers.found clean held in search rules in
     λ clean.
     let is_open = (c.in-Ok-true.ensures.answers.open clean held).is_open in
@@ -49,7 +48,7 @@ pub returns-in-Ok-true-clause-ok : goal.returns-in-Ok-true-clause-ok
 returns-in-Ok-true-clause-ok g c =
     let old = state g.S.Store c.args.conn in
     let new = state g.S.Store c.are_formed.new.conn in
-    let held : HoldsTablesOf forms_layout old = search rules in
+    let held : HoldsTablesOf current_layout old = search rules in
     let formed : HasCleanDisk new → AreFormed old.committed.trees = λ clean. let it = c.in-Ok-true.ensures.answers.found clean held in search rules in
     rw c.over.ensures
     (λ (clean : HasCleanDisk new).
@@ -58,47 +57,47 @@ returns-in-Ok-true-clause-ok g c =
 
 pub returns-in-Ok-true-clause-limit : goal.returns-in-Ok-true-clause-limit
 returns-in-Ok-true-clause-limit g c =
-    let held : HoldsTablesOf forms_layout (state g.S.Store c.args.conn) = search rules in
+    let held : HoldsTablesOf current_layout (state g.S.Store c.args.conn) = search rules in
     rw c.over.ensures (c.are_formed.ensures.answers.survives held).limit
 
 pub returns-in-Ok-false-clause-err : goal.returns-in-Ok-false-clause-err
 returns-in-Ok-false-clause-err g c clean =
     let old = state g.S.Store c.args.conn in
     let new = state g.S.Store c.are_formed.new.conn in
-    let held : HoldsTablesOf forms_layout old = search rules in
+    let held : HoldsTablesOf current_layout old = search rules in
     let settled : IsTrue old.is_open → old.now ≡ old.committed = search rules in
-    let has : old.now.schema ≡ schema_4 = search rules in
+    let has : old.now.schema ≡ current_schema = search rules in
     let other : ¬ AreFormed old.committed.trees = let it = c.in-Ok-false.ensures.answers.found clean held in search rules in (
       c.are_formed.ensures.answers.kept clean held,
       (λ store.
-          isnt_seen forms_layout old new held (λ clean. c.are_formed.ensures.answers.kept clean held) AreFormed clean settled other
+          isnt_seen current_layout old new held (λ clean. c.are_formed.ensures.answers.kept clean held) AreFormed clean settled other
           (c.in-Ok-false.ensures.answers.open clean held).is_open (of_formed old.now store)),
       (λ earlier. elim earlier [
-        | inl first ↦ not_of rows_layout schema_4 old.now has (λ same. omega (arith, same)) first
+        | inl first ↦ not_of rows_layout current_schema old.now has (λ same. omega (arith, same)) first
         | inr later ↦ elim later [
-          | inl second ↦ not_of packs_layout schema_4 old.now has (λ same. omega (arith, same)) second.store
-          | inr third ↦ not_of daily_layout schema_4 old.now has (λ same. omega (arith, same)) third.store
+          | inl second ↦ not_of packs_layout current_schema old.now has (λ same. omega (arith, same)) second.store
+          | inr third ↦ not_of daily_layout current_schema old.now has (λ same. omega (arith, same)) third.store
         ]
       ]),
     )
 
 pub returns-in-Ok-false-clause-limit : goal.returns-in-Ok-false-clause-limit
 returns-in-Ok-false-clause-limit g c =
-    let held : HoldsTablesOf forms_layout (state g.S.Store c.args.conn) = search rules in
+    let held : HoldsTablesOf current_layout (state g.S.Store c.args.conn) = search rules in
     (c.are_formed.ensures.answers.survives held).limit
 
 pub returns-in-Err-clause-err : goal.returns-in-Err-clause-err
 returns-in-Err-clause-err g c clean =
-    let held : HoldsTablesOf forms_layout (state g.S.Store c.args.conn) = search rules in
+    let held : HoldsTablesOf current_layout (state g.S.Store c.args.conn) = search rules in
     rw c.from.ensures (c.are_formed.ensures.answers.kept clean held, c.in-Err.ensures.cause clean held)
 
 pub returns-in-Err-clause-limit : goal.returns-in-Err-clause-limit
 returns-in-Err-clause-limit g c =
-    let held : HoldsTablesOf forms_layout (state g.S.Store c.args.conn) = search rules in
+    let held : HoldsTablesOf current_layout (state g.S.Store c.args.conn) = search rules in
     (c.are_formed.ensures.answers.survives held).limit
 
-pub returns-then-has_schema_3-clause-err : goal.returns-then-has_schema_3-clause-err
-returns-then-has_schema_3-clause-err g c = c.refusal_of_third.ensures.err
+pub returns-then-is_third-clause-err : goal.returns-then-is_third-clause-err
+returns-then-is_third-clause-err g c = c.refusal_of_third.ensures.err
 
 pub returns-then-not-is_autocommit-clause-ok : goal.returns-then-not-is_autocommit-clause-ok
 returns-then-not-is_autocommit-clause-ok g c = tt
@@ -126,25 +125,25 @@ pub refusal_of_first-requires-clause-settled : goal.refusal_of_first-requires-cl
 refusal_of_first-requires-clause-settled g c = c.is_autocommit.ensures.settled c.if-not-is_autocommit.false
 
 pub refusal_of_first-requires-clause-schema : goal.refusal_of_first-requires-clause-schema
-refusal_of_first-requires-clause-schema g c = sym c.schema.ensures.value ∙ is_so _ c.has_schema_1.result c.if-has_schema_1.true c.has_schema_1.ensures
+refusal_of_first-requires-clause-schema g c = sym c.schema.ensures.value ∙ is_so _ c.has_schema-is_first.result c.if-is_first.true c.has_schema-is_first.ensures
 
-pub returns-then-has_schema_1-clause-ok : goal.returns-then-has_schema_1-clause-ok
-returns-then-has_schema_1-clause-ok g c = tt
+pub returns-then-is_first-clause-ok : goal.returns-then-is_first-clause-ok
+returns-then-is_first-clause-ok g c = tt
 
-pub returns-then-has_schema_1-clause-err : goal.returns-then-has_schema_1-clause-err
-returns-then-has_schema_1-clause-err g c = c.refusal_of_first.ensures.err
+pub returns-then-is_first-clause-err : goal.returns-then-is_first-clause-err
+returns-then-is_first-clause-err g c = c.refusal_of_first.ensures.err
 
-pub returns-then-has_schema_1-clause-busy : goal.returns-then-has_schema_1-clause-busy
-returns-then-has_schema_1-clause-busy g c = λ busy. absurd (both_ways _ (not-true _ (sym c.is_autocommit.ensures.value ∙ c.if-not-is_autocommit.false)) busy)
+pub returns-then-is_first-clause-busy : goal.returns-then-is_first-clause-busy
+returns-then-is_first-clause-busy g c = λ busy. absurd (both_ways _ (not-true _ (sym c.is_autocommit.ensures.value ∙ c.if-not-is_autocommit.false)) busy)
 
-pub returns-then-has_schema_1-clause-limit : goal.returns-then-has_schema_1-clause-limit
-returns-then-has_schema_1-clause-limit g c = c.refusal_of_first.ensures.limit
+pub returns-then-is_first-clause-limit : goal.returns-then-is_first-clause-limit
+returns-then-is_first-clause-limit g c = c.refusal_of_first.ensures.limit
 
-pub returns-then-has_schema_1-clause-mode : goal.returns-then-has_schema_1-clause-mode
-returns-then-has_schema_1-clause-mode g c = c.refusal_of_first.ensures.mode ∙ sym (not-true _ (sym c.is_autocommit.ensures.value ∙ c.if-not-is_autocommit.false))
+pub returns-then-is_first-clause-mode : goal.returns-then-is_first-clause-mode
+returns-then-is_first-clause-mode g c = c.refusal_of_first.ensures.mode ∙ sym (not-true _ (sym c.is_autocommit.ensures.value ∙ c.if-not-is_autocommit.false))
 
-pub returns-then-has_schema_1-clause-survives : goal.returns-then-has_schema_1-clause-survives
-returns-then-has_schema_1-clause-survives g c = c.refusal_of_first.ensures.survives
+pub returns-then-is_first-clause-survives : goal.returns-then-is_first-clause-survives
+returns-then-is_first-clause-survives g c = c.refusal_of_first.ensures.survives
 
 pub refusal_of_second-requires-clause-mode : goal.refusal_of_second-requires-clause-mode
 refusal_of_second-requires-clause-mode g c = not-true _ (sym c.is_autocommit.ensures.value ∙ c.if-not-is_autocommit.false)
@@ -153,25 +152,25 @@ pub refusal_of_second-requires-clause-settled : goal.refusal_of_second-requires-
 refusal_of_second-requires-clause-settled g c = c.is_autocommit.ensures.settled c.if-not-is_autocommit.false
 
 pub refusal_of_second-requires-clause-schema : goal.refusal_of_second-requires-clause-schema
-refusal_of_second-requires-clause-schema g c = sym c.schema-2.ensures.value ∙ is_so _ c.has_schema_2.result c.if-has_schema_2.true c.has_schema_2.ensures
+refusal_of_second-requires-clause-schema g c = sym c.schema-2.ensures.value ∙ is_so _ c.has_schema-is_second.result c.if-is_second.true c.has_schema-is_second.ensures
 
-pub returns-then-has_schema_2-clause-ok : goal.returns-then-has_schema_2-clause-ok
-returns-then-has_schema_2-clause-ok g c = tt
+pub returns-then-is_second-clause-ok : goal.returns-then-is_second-clause-ok
+returns-then-is_second-clause-ok g c = tt
 
-pub returns-then-has_schema_2-clause-err : goal.returns-then-has_schema_2-clause-err
-returns-then-has_schema_2-clause-err g c = c.refusal_of_second.ensures.err
+pub returns-then-is_second-clause-err : goal.returns-then-is_second-clause-err
+returns-then-is_second-clause-err g c = c.refusal_of_second.ensures.err
 
-pub returns-then-has_schema_2-clause-busy : goal.returns-then-has_schema_2-clause-busy
-returns-then-has_schema_2-clause-busy g c = λ busy. absurd (both_ways _ (not-true _ (sym c.is_autocommit.ensures.value ∙ c.if-not-is_autocommit.false)) busy)
+pub returns-then-is_second-clause-busy : goal.returns-then-is_second-clause-busy
+returns-then-is_second-clause-busy g c = λ busy. absurd (both_ways _ (not-true _ (sym c.is_autocommit.ensures.value ∙ c.if-not-is_autocommit.false)) busy)
 
-pub returns-then-has_schema_2-clause-limit : goal.returns-then-has_schema_2-clause-limit
-returns-then-has_schema_2-clause-limit g c = c.refusal_of_second.ensures.limit
+pub returns-then-is_second-clause-limit : goal.returns-then-is_second-clause-limit
+returns-then-is_second-clause-limit g c = c.refusal_of_second.ensures.limit
 
-pub returns-then-has_schema_2-clause-mode : goal.returns-then-has_schema_2-clause-mode
-returns-then-has_schema_2-clause-mode g c = c.refusal_of_second.ensures.mode ∙ sym (not-true _ (sym c.is_autocommit.ensures.value ∙ c.if-not-is_autocommit.false))
+pub returns-then-is_second-clause-mode : goal.returns-then-is_second-clause-mode
+returns-then-is_second-clause-mode g c = c.refusal_of_second.ensures.mode ∙ sym (not-true _ (sym c.is_autocommit.ensures.value ∙ c.if-not-is_autocommit.false))
 
-pub returns-then-has_schema_2-clause-survives : goal.returns-then-has_schema_2-clause-survives
-returns-then-has_schema_2-clause-survives g c = c.refusal_of_second.ensures.survives
+pub returns-then-is_second-clause-survives : goal.returns-then-is_second-clause-survives
+returns-then-is_second-clause-survives g c = c.refusal_of_second.ensures.survives
 
 pub refusal_of_third-requires-clause-mode : goal.refusal_of_third-requires-clause-mode
 refusal_of_third-requires-clause-mode g c = not-true _ (sym c.is_autocommit.ensures.value ∙ c.if-not-is_autocommit.false)
@@ -180,50 +179,50 @@ pub refusal_of_third-requires-clause-settled : goal.refusal_of_third-requires-cl
 refusal_of_third-requires-clause-settled g c = c.is_autocommit.ensures.settled c.if-not-is_autocommit.false
 
 pub refusal_of_third-requires-clause-schema : goal.refusal_of_third-requires-clause-schema
-refusal_of_third-requires-clause-schema g c = sym c.schema-3.ensures.value ∙ is_so _ c.has_schema_3.result c.if-has_schema_3.true c.has_schema_3.ensures
+refusal_of_third-requires-clause-schema g c = sym c.schema-3.ensures.value ∙ is_so _ c.has_schema-is_third.result c.if-is_third.true c.has_schema-is_third.ensures
 
-pub returns-then-has_schema_3-clause-ok : goal.returns-then-has_schema_3-clause-ok
-returns-then-has_schema_3-clause-ok g c = tt
+pub returns-then-is_third-clause-ok : goal.returns-then-is_third-clause-ok
+returns-then-is_third-clause-ok g c = tt
 
-pub returns-then-has_schema_3-clause-busy : goal.returns-then-has_schema_3-clause-busy
-returns-then-has_schema_3-clause-busy g c = λ busy. absurd (both_ways _ (not-true _ (sym c.is_autocommit.ensures.value ∙ c.if-not-is_autocommit.false)) busy)
+pub returns-then-is_third-clause-busy : goal.returns-then-is_third-clause-busy
+returns-then-is_third-clause-busy g c = λ busy. absurd (both_ways _ (not-true _ (sym c.is_autocommit.ensures.value ∙ c.if-not-is_autocommit.false)) busy)
 
-pub returns-then-has_schema_3-clause-limit : goal.returns-then-has_schema_3-clause-limit
-returns-then-has_schema_3-clause-limit g c = c.refusal_of_third.ensures.limit
+pub returns-then-is_third-clause-limit : goal.returns-then-is_third-clause-limit
+returns-then-is_third-clause-limit g c = c.refusal_of_third.ensures.limit
 
-pub returns-then-has_schema_3-clause-mode : goal.returns-then-has_schema_3-clause-mode
-returns-then-has_schema_3-clause-mode g c = c.refusal_of_third.ensures.mode ∙ sym (not-true _ (sym c.is_autocommit.ensures.value ∙ c.if-not-is_autocommit.false))
+pub returns-then-is_third-clause-mode : goal.returns-then-is_third-clause-mode
+returns-then-is_third-clause-mode g c = c.refusal_of_third.ensures.mode ∙ sym (not-true _ (sym c.is_autocommit.ensures.value ∙ c.if-not-is_autocommit.false))
 
-pub returns-then-has_schema_3-clause-survives : goal.returns-then-has_schema_3-clause-survives
-returns-then-has_schema_3-clause-survives g c = c.refusal_of_third.ensures.survives
+pub returns-then-is_third-clause-survives : goal.returns-then-is_third-clause-survives
+returns-then-is_third-clause-survives g c = c.refusal_of_third.ensures.survives
 
-pub returns-then-not-has_schema_4-clause-ok : goal.returns-then-not-has_schema_4-clause-ok
-returns-then-not-has_schema_4-clause-ok g c = tt
+pub returns-then-not-is_fourth-clause-ok : goal.returns-then-not-is_fourth-clause-ok
+returns-then-not-is_fourth-clause-ok g c = tt
 
-pub returns-then-not-has_schema_4-clause-err : goal.returns-then-not-has_schema_4-clause-err
-returns-then-not-has_schema_4-clause-err g c clean = (
+pub returns-then-not-is_fourth-clause-err : goal.returns-then-not-is_fourth-clause-err
+returns-then-not-is_fourth-clause-err g c clean = (
   keeps_same (state g.S.Store c.args.conn),
-  (λ formed. isnt_so _ c.has_schema_4.result c.if-not-has_schema_4.true c.has_schema_4.ensures (c.schema-4.ensures.value ∙ formed.store.schema)),
+  (λ formed. isnt_so _ c.has_schema-is_fourth.result c.if-not-is_fourth.true c.has_schema-is_fourth.ensures (c.schema-4.ensures.value ∙ formed.store.schema)),
   (λ earlier. elim earlier [
-    | inl first ↦ isnt_so _ c.has_schema_1.result c.if-has_schema_1.false c.has_schema_1.ensures (c.schema.ensures.value ∙ first.schema)
+    | inl first ↦ isnt_so _ c.has_schema-is_first.result c.if-is_first.false c.has_schema-is_first.ensures (c.schema.ensures.value ∙ first.schema)
     | inr later ↦ elim later [
-      | inl second ↦ isnt_so _ c.has_schema_2.result c.if-has_schema_2.false c.has_schema_2.ensures (c.schema-2.ensures.value ∙ second.store.schema)
-      | inr third ↦ isnt_so _ c.has_schema_3.result c.if-has_schema_3.false c.has_schema_3.ensures (c.schema-3.ensures.value ∙ third.store.schema)
+      | inl second ↦ isnt_so _ c.has_schema-is_second.result c.if-is_second.false c.has_schema-is_second.ensures (c.schema-2.ensures.value ∙ second.store.schema)
+      | inr third ↦ isnt_so _ c.has_schema-is_third.result c.if-is_third.false c.has_schema-is_third.ensures (c.schema-3.ensures.value ∙ third.store.schema)
     ]
   ]),
 )
 
-pub returns-then-not-has_schema_4-clause-busy : goal.returns-then-not-has_schema_4-clause-busy
-returns-then-not-has_schema_4-clause-busy g c = λ busy. absurd (both_ways _ (not-true _ (sym c.is_autocommit.ensures.value ∙ c.if-not-is_autocommit.false)) busy)
+pub returns-then-not-is_fourth-clause-busy : goal.returns-then-not-is_fourth-clause-busy
+returns-then-not-is_fourth-clause-busy g c = λ busy. absurd (both_ways _ (not-true _ (sym c.is_autocommit.ensures.value ∙ c.if-not-is_autocommit.false)) busy)
 
-pub returns-then-not-has_schema_4-clause-limit : goal.returns-then-not-has_schema_4-clause-limit
-returns-then-not-has_schema_4-clause-limit g c = refl
+pub returns-then-not-is_fourth-clause-limit : goal.returns-then-not-is_fourth-clause-limit
+returns-then-not-is_fourth-clause-limit g c = refl
 
-pub returns-then-not-has_schema_4-clause-mode : goal.returns-then-not-has_schema_4-clause-mode
-returns-then-not-has_schema_4-clause-mode g c = refl
+pub returns-then-not-is_fourth-clause-mode : goal.returns-then-not-is_fourth-clause-mode
+returns-then-not-is_fourth-clause-mode g c = refl
 
-pub returns-then-not-has_schema_4-clause-survives : goal.returns-then-not-has_schema_4-clause-survives
-returns-then-not-has_schema_4-clause-survives g c = survives_same (state g.S.Store c.args.conn)
+pub returns-then-not-is_fourth-clause-survives : goal.returns-then-not-is_fourth-clause-survives
+returns-then-not-is_fourth-clause-survives g c = survives_same (state g.S.Store c.args.conn)
 
 pub are_formed-requires : goal.are_formed-requires
 are_formed-requires g c = not-true _ (sym c.is_autocommit.ensures.value ∙ c.if-not-is_autocommit.false)

@@ -4,8 +4,8 @@ use Rattle.sqlite.specs.Held.{state}
 use Rattle.mds_tables.specs.Layouts.{rows_layout}
 use Rattle.mds_tables.specs.Stores.{IsStore}
 use Rattle.mds_tables.specs.Tables.{schema_1}
+use Rattle.mds_pack_rows.specs.Current.{current_layout}
 use Rattle.mds_pack_rows.specs.DailyLayout.{daily_layout}
-use Rattle.mds_pack_rows.specs.FormLayout.{forms_layout}
 use Rattle.mds_store.proofs.Adopting.{is_none, said}
 use Rattle.mds_pack_rows.proofs.TwoSchemas.{not_of, not_second, tables_seen}
 use Rattle.mds_pack_store.proofs.starting.refusal_of_first.Goals as goal
@@ -38,7 +38,7 @@ returns-in-Ok-false-clause-err g c clean =
     let held = tables_seen rows_layout old c.requires.settled c.requires.schema in
     let other : ¬ (said old.committed ≡ pos 1 ∷ []) = let it = (c.in-Ok-false.ensures.answers rows_layout).found clean held in search rules in (
       asked.kept clean held,
-      (λ later. not_of forms_layout schema_1 old.now c.requires.schema (λ same. omega (arith, same)) later.store),
+      (λ later. not_of current_layout schema_1 old.now c.requires.schema (λ same. omega (arith, same)) later.store),
       (λ earlier. elim earlier [
         | inl store ↦
             is_none rows_layout old new held (asked.survives held) (λ clean. asked.kept clean held) clean c.requires.settled other

@@ -1,8 +1,8 @@
 use Rattle.std.proofs.Common.{rules, inl, inr, arith, subst, sym}
 use Rattle.sqlite.specs.Effect.{Database}
 use Rattle.sqlite.specs.Held.{state}
+use Rattle.mds_pack_rows.specs.Current.{current_layout}
 use Rattle.mds_pack_rows.specs.DailyLayout.{daily_layout}
-use Rattle.mds_pack_rows.specs.FormLayout.{forms_layout}
 use Rattle.mds_pack_rows.specs.PackTables.{schema_2}
 use Rattle.mds_pack_rows.specs.PacksLayout.{packs_layout}
 use Rattle.mds_pack_rows.proofs.TwoSchemas.{not_first, not_of, tables_seen}
@@ -29,7 +29,7 @@ returns-in-Ok-false-clause-err g c clean =
     let held = tables_seen packs_layout old c.requires.settled c.requires.schema in
     let other : ¬ ArePacked old.committed.trees = let it = c.in-Ok-false.ensures.answers.found clean held in search rules in (
       asked.kept clean held,
-      (λ later. not_of forms_layout schema_2 old.now c.requires.schema (λ same. omega (arith, same)) later.store),
+      (λ later. not_of current_layout schema_2 old.now c.requires.schema (λ same. omega (arith, same)) later.store),
       (λ earlier. elim earlier [
         | inl first ↦ not_first old.now c.requires.schema first
         | inr later ↦ elim later [

@@ -2,9 +2,9 @@ use Rattle.std.proofs.Common.{rules, inl, inr, arith, subst, sym}
 use Rattle.sqlite.specs.Effect.{Database}
 use Rattle.sqlite.specs.Held.{state}
 use Rattle.mds_tables.specs.Layouts.{rows_layout}
+use Rattle.mds_pack_rows.specs.Current.{current_layout}
 use Rattle.mds_pack_rows.specs.DailyLayout.{daily_layout}
 use Rattle.mds_pack_rows.specs.DailyTables.{schema_3}
-use Rattle.mds_pack_rows.specs.FormLayout.{forms_layout}
 use Rattle.mds_pack_rows.specs.PacksLayout.{packs_layout}
 use Rattle.mds_pack_rows.proofs.TwoSchemas.{not_of, tables_seen}
 use Rattle.mds_pack_store.specs.Daily.{AreDaily, IsDailyStore}
@@ -30,7 +30,7 @@ returns-in-Ok-false-clause-err g c clean =
     let held = tables_seen daily_layout old c.requires.settled c.requires.schema in
     let other : ¬ AreDaily old.committed.trees = let it = c.in-Ok-false.ensures.answers.found clean held in search rules in (
       asked.kept clean held,
-      (λ later. not_of forms_layout schema_3 old.now c.requires.schema (λ same. omega (arith, same)) later.store),
+      (λ later. not_of current_layout schema_3 old.now c.requires.schema (λ same. omega (arith, same)) later.store),
       (λ earlier. elim earlier [
         | inl first ↦ not_of rows_layout schema_3 old.now c.requires.schema (λ same. omega (arith, same)) first
         | inr later ↦ elim later [

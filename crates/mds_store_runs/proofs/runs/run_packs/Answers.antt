@@ -1,5 +1,5 @@
 use Rattle.std.proofs.Common.{refl, inl, inr, sym, ◌∙◌}
-use Rattle.mds_pack_rows.specs.FormLayout.{forms_layout, world_4}
+use Rattle.mds_pack_rows.specs.Current.{current_layout, current_world}
 use Rattle.mds_store.specs.Props.{settles}
 use Rattle.mds_store_runs.proofs.Answered.{if_ok}
 use Rattle.mds_store_runs.proofs.runs.run_packs.Goals as goal
@@ -15,7 +15,7 @@ returns g c = record {
         λ trees left. elim (it.4 _ (trees, left, refl)) [
           | inl may ↦ may
           | inr same ↦
-              let stood = settles forms_layout _ _ (λ before. g.met.S.Store.settled c.args.keeper.now.conn.store before was) (world_4 trees) same.1 in
+              let stood = settles current_layout _ _ (λ before. g.met.S.Store.settled c.args.keeper.now.conn.store before was) (current_world trees) same.1 in
               inl (stood ∙ sym same.0)
         ],
       )) c.run.ensures.run;

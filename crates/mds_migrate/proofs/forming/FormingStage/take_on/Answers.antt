@@ -1,83 +1,61 @@
+use Rattle.std.proofs.Common.{◌∙◌, Ok}
 use Rattle.sqlite.specs.Held.{state}
-use Rattle.mds_pack_rows.specs.Putting.{GoesOn}
-use Rattle.mds_migrate.proofs.FormingSteps.{keeps_four, keeps_three, takes_on, keeps_two}
-use Rattle.mds_migrate.proofs.Steps.{on_both}
-use Rattle.std.proofs.Common.{◌∙◌}
-use Rattle.std.proofs.lemmas.Result.{IfOk-from_err}
-use Rattle.mds_tables.proofs.CallLemmas.{survives_more}
+use Rattle.mds_inserts.proofs.FrameLemmas.{frames_as, frames_both, frames_failed, frames_stop}
+use Rattle.mds_pack_rows.specs.DailyTables.{schema_3}
+use Rattle.mds_pack_rows.specs.FormLayout.{forms_behind}
+use Rattle.mds_pack_rows.specs.FormTables.{schema_4}
+use Rattle.mds_pack_rows.specs.Making.{MakesTable}
+use Rattle.mds_pack_rows.proofs.FrameLemmas.{frames_make}
+use Rattle.mds_migrate.proofs.FormingSteps.{has_formed}
 use Rattle.mds_migrate.proofs.forming.FormingStage.take_on.Goals as goal
 
-pub returns-in_err-clear_lengths-clause-kept : goal.returns-in_err-clear_lengths-clause-kept
-returns-in_err-clear_lengths-clause-kept g c =
-    keeps_three (state g.S.Store c.args.tx.now.conn.now) (state g.S.Store c.make_form.new.tx.conn.now) (state g.S.Store c.form_days.new.tx.conn.now)
-    c.form_days.ensures.survives.clean (rw c.in_ok-or_unavailable.ensures at c.make_form.ensures.makes) (state g.S.Store c.clear_lengths.new.tx.conn.now) c.clear_lengths.ensures.survives.clean
-    c.in_ok-form_days.ensures.ok c.in_ok-form_days.ensures.goes_on c.make_form.ensures.kept c.form_days.ensures.kept c.clear_lengths.ensures.kept
+pub returns-in_err-or_unavailable-clause-moves : goal.returns-in_err-or_unavailable-clause-moves
+returns-in_err-or_unavailable-clause-moves g c =
+    frames_failed c.from_residual.result c.from_residual.ensures.0 (λ clean _. c.make_table.ensures.kept clean) c.make_table.ensures.survives
 
-pub returns-clause-ok : goal.returns-clause-ok
-returns-clause-ok g c =
-    let d = state g.S.Store c.clear_lengths.new.tx.conn.now in
-    let e = state g.S.Store c.raise_version.new.tx.conn.now in
-    on_both c.raise_version.result (GoesOn d e) _ _
-    (λ four raises.
-    takes_on (state g.S.Store c.args.tx.now.conn.now) (state g.S.Store c.make_form.new.tx.conn.now) (state g.S.Store c.form_days.new.tx.conn.now)
-    c.form_days.ensures.survives.clean (rw c.in_ok-or_unavailable.ensures at c.make_form.ensures.makes) d c.clear_lengths.ensures.survives.clean
-    c.in_ok-form_days.ensures.ok c.in_ok-form_days.ensures.goes_on e c.raise_version.ensures.survives.clean c.in_ok-clear_lengths.ensures.ok raises
-    (rw c.in_ok-or_unavailable.ensures at c.make_form.ensures.ok) c.in_ok-clear_lengths.ensures.goes_on four)
-    c.raise_version.ensures.goes_on c.raise_version.ensures.ok
+pub returns-in_err-form_days-clause-moves : goal.returns-in_err-form_days-clause-moves
+returns-in_err-form_days-clause-moves g c =
+    let a = state g.S.Store c.args.tx.now.conn.now in
+    let b = state g.S.Store c.make_table.new.tx.conn.now in
+    let make = frames_make {X = Unit {0}} {E = Unit {0}} schema_3 schema_4 a b (Ok tt) (λ (it : MakesTable 10 a b). (it.is_open, it.schema, it.sound))
+    (rw c.in_ok-or_unavailable.ensures at c.make_table.ensures.ok) (rw c.in_ok-or_unavailable.ensures at c.make_table.ensures.makes)
+    c.make_table.ensures.kept c.make_table.ensures.survives in
+    frames_stop c.from_residual-in_err-form_days.result c.from_residual-in_err-form_days.ensures.0 (frames_both make c.form_days.ensures.frames)
 
-pub returns-clause-kept : goal.returns-clause-kept
-returns-clause-kept g c =
-    keeps_four (state g.S.Store c.args.tx.now.conn.now) (state g.S.Store c.make_form.new.tx.conn.now) (state g.S.Store c.form_days.new.tx.conn.now)
-    c.form_days.ensures.survives.clean (rw c.in_ok-or_unavailable.ensures at c.make_form.ensures.makes) (state g.S.Store c.clear_lengths.new.tx.conn.now) c.clear_lengths.ensures.survives.clean
-    c.in_ok-form_days.ensures.ok c.in_ok-form_days.ensures.goes_on (state g.S.Store c.raise_version.new.tx.conn.now) c.raise_version.ensures.survives.clean
-    c.in_ok-clear_lengths.ensures.ok c.make_form.ensures.kept c.form_days.ensures.kept c.clear_lengths.ensures.kept c.raise_version.ensures.kept
+pub returns-in_err-clear_lengths-clause-moves : goal.returns-in_err-clear_lengths-clause-moves
+returns-in_err-clear_lengths-clause-moves g c =
+    let a = state g.S.Store c.args.tx.now.conn.now in
+    let b = state g.S.Store c.make_table.new.tx.conn.now in
+    let make = frames_make {X = Unit {0}} {E = Unit {0}} schema_3 schema_4 a b (Ok tt) (λ (it : MakesTable 10 a b). (it.is_open, it.schema, it.sound))
+    (rw c.in_ok-or_unavailable.ensures at c.make_table.ensures.ok) (rw c.in_ok-or_unavailable.ensures at c.make_table.ensures.makes)
+    c.make_table.ensures.kept c.make_table.ensures.survives in
+    frames_stop c.from_residual-in_err-clear_lengths.result c.from_residual-in_err-clear_lengths.ensures.0
+    (frames_both make (frames_both c.in_ok-form_days.ensures.frames c.clear_lengths.ensures.frames))
+
+pub returns-clause-moves : goal.returns-clause-moves
+returns-clause-moves g c =
+    let a = state g.S.Store c.args.tx.now.conn.now in
+    let b = state g.S.Store c.make_table.new.tx.conn.now in
+    let make = frames_make {X = Unit {0}} {E = Unit {0}} schema_3 schema_4 a b (Ok tt) (λ (it : MakesTable 10 a b). (it.is_open, it.schema, it.sound))
+    (rw c.in_ok-or_unavailable.ensures at c.make_table.ensures.ok) (rw c.in_ok-or_unavailable.ensures at c.make_table.ensures.makes)
+    c.make_table.ensures.kept c.make_table.ensures.survives in
+    let all = frames_both make
+    (frames_both c.in_ok-form_days.ensures.frames (frames_both c.in_ok-clear_lengths.ensures.frames (c.raise_version.ensures.frames forms_behind))) in
+    frames_as (λ _ _ did first. has_formed a b
+    (state g.S.Store c.form_days.new.tx.conn.now) (state g.S.Store c.clear_lengths.new.tx.conn.now) (state g.S.Store c.raise_version.new.tx.conn.now)
+    first did.0 did.1.0 did.1.1.0 did.1.1.1) all
 
 pub returns-in_err-or_unavailable-clause-same_reference : goal.returns-in_err-or_unavailable-clause-same_reference
-returns-in_err-or_unavailable-clause-same_reference g c = c.make_form.ensures.same_reference
-
-pub returns-in_err-or_unavailable-clause-ok : goal.returns-in_err-or_unavailable-clause-ok
-returns-in_err-or_unavailable-clause-ok g c = IfOk-from_err c.from_residual.result _ c.from_residual.ensures.0
-
-pub returns-in_err-or_unavailable-clause-kept : goal.returns-in_err-or_unavailable-clause-kept
-returns-in_err-or_unavailable-clause-kept g c = λ clean is_open first. c.make_form.ensures.kept clean
-
-pub returns-in_err-or_unavailable-clause-survives : goal.returns-in_err-or_unavailable-clause-survives
-returns-in_err-or_unavailable-clause-survives g c = c.make_form.ensures.survives
+returns-in_err-or_unavailable-clause-same_reference g c = c.make_table.ensures.same_reference
 
 pub returns-in_err-form_days-clause-same_reference : goal.returns-in_err-form_days-clause-same_reference
-returns-in_err-form_days-clause-same_reference g c = c.form_days.ensures.same_reference ∙ c.make_form.ensures.same_reference
-
-pub returns-in_err-form_days-clause-ok : goal.returns-in_err-form_days-clause-ok
-returns-in_err-form_days-clause-ok g c = IfOk-from_err c.from_residual-in_err-form_days.result _ c.from_residual-in_err-form_days.ensures.0
-
-pub returns-in_err-form_days-clause-kept : goal.returns-in_err-form_days-clause-kept
-returns-in_err-form_days-clause-kept g c =
-    keeps_two (state g.S.Store c.args.tx.now.conn.now) (state g.S.Store c.make_form.new.tx.conn.now) (state g.S.Store c.form_days.new.tx.conn.now)
-    c.form_days.ensures.survives.clean (rw c.in_ok-or_unavailable.ensures at c.make_form.ensures.makes) c.make_form.ensures.kept c.form_days.ensures.kept
-
-pub returns-in_err-form_days-clause-survives : goal.returns-in_err-form_days-clause-survives
-returns-in_err-form_days-clause-survives g c =
-    survives_more (state g.S.Store c.args.tx.now.conn.now) (state g.S.Store c.make_form.new.tx.conn.now) (state g.S.Store c.form_days.new.tx.conn.now)
-    c.make_form.ensures.survives c.form_days.ensures.survives
+returns-in_err-form_days-clause-same_reference g c = c.form_days.ensures.same_reference ∙ c.make_table.ensures.same_reference
 
 pub returns-in_err-clear_lengths-clause-same_reference : goal.returns-in_err-clear_lengths-clause-same_reference
-returns-in_err-clear_lengths-clause-same_reference g c = c.clear_lengths.ensures.same_reference ∙ (c.form_days.ensures.same_reference ∙ c.make_form.ensures.same_reference)
-
-pub returns-in_err-clear_lengths-clause-ok : goal.returns-in_err-clear_lengths-clause-ok
-returns-in_err-clear_lengths-clause-ok g c = IfOk-from_err c.from_residual-in_err-clear_lengths.result _ c.from_residual-in_err-clear_lengths.ensures.0
-
-pub returns-in_err-clear_lengths-clause-survives : goal.returns-in_err-clear_lengths-clause-survives
-returns-in_err-clear_lengths-clause-survives g c =
-    survives_more (state g.S.Store c.args.tx.now.conn.now) (state g.S.Store c.form_days.new.tx.conn.now) (state g.S.Store c.clear_lengths.new.tx.conn.now)
-    (survives_more (state g.S.Store c.args.tx.now.conn.now) (state g.S.Store c.make_form.new.tx.conn.now) (state g.S.Store c.form_days.new.tx.conn.now)
-    c.make_form.ensures.survives c.form_days.ensures.survives) c.clear_lengths.ensures.survives
+returns-in_err-clear_lengths-clause-same_reference g c =
+    c.clear_lengths.ensures.same_reference ∙ (c.form_days.ensures.same_reference ∙ c.make_table.ensures.same_reference)
 
 pub returns-clause-same_reference : goal.returns-clause-same_reference
-returns-clause-same_reference g c = c.raise_version.ensures.same_reference ∙ (c.clear_lengths.ensures.same_reference ∙ (c.form_days.ensures.same_reference ∙ c.make_form.ensures.same_reference))
-
-pub returns-clause-survives : goal.returns-clause-survives
-returns-clause-survives g c =
-    survives_more (state g.S.Store c.args.tx.now.conn.now) (state g.S.Store c.clear_lengths.new.tx.conn.now) (state g.S.Store c.raise_version.new.tx.conn.now)
-    (survives_more (state g.S.Store c.args.tx.now.conn.now) (state g.S.Store c.form_days.new.tx.conn.now) (state g.S.Store c.clear_lengths.new.tx.conn.now)
-    (survives_more (state g.S.Store c.args.tx.now.conn.now) (state g.S.Store c.make_form.new.tx.conn.now) (state g.S.Store c.form_days.new.tx.conn.now)
-    c.make_form.ensures.survives c.form_days.ensures.survives) c.clear_lengths.ensures.survives) c.raise_version.ensures.survives
+returns-clause-same_reference g c =
+    c.raise_version.ensures.same_reference
+    ∙ (c.clear_lengths.ensures.same_reference ∙ (c.form_days.ensures.same_reference ∙ c.make_table.ensures.same_reference))

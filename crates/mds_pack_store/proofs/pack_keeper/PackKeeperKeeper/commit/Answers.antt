@@ -1,5 +1,5 @@
 use Rattle.std.proofs.Common.{refl}
-use Rattle.mds_pack_rows.specs.FormLayout.{forms_layout}
+use Rattle.mds_pack_rows.specs.Current.{current_layout}
 use Rattle.mds_form_rows.specs.FormPutting.{GainsForms}
 use Rattle.mds_store.proofs.Keeping.{added}
 use Rattle.mds_pack_store.proofs.Keeping.{as_store, formed_with}
@@ -15,4 +15,4 @@ pub returns : goal.returns
 returns g c =
     let did = c.commit.ensures in
     let store = as_store c.args.self.now.holds in
-    added forms_layout GainsForms c.commit.result store did.ok (λ clean. did.err clean store) did.survives c.commit.result refl
+    added current_layout GainsForms c.commit.result store did.ok (λ clean. did.err clean store) did.survives c.commit.result refl

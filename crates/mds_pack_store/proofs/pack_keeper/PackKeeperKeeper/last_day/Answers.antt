@@ -1,4 +1,4 @@
-use Rattle.mds_pack_rows.specs.FormLayout.{forms_layout}
+use Rattle.mds_pack_rows.specs.Current.{current_layout}
 use Rattle.mds_store.proofs.Keeping.{asked}
 use Rattle.mds_pack_store.proofs.Keeping.{as_store, formed_on}
 use Rattle.mds_pack_store.proofs.pack_keeper.PackKeeperKeeper.last_day.Goals as goal
@@ -7,4 +7,4 @@ pub invariant_of-self : goal.invariant_of-self
 invariant_of-self g c = record { autocommit = c.last_day.ensures.mode; holds = formed_on c.args.self.now.holds c.last_day.ensures }
 
 pub returns : goal.returns
-returns g c = asked forms_layout _ (as_store c.args.self.now.holds) c.last_day.ensures
+returns g c = asked current_layout _ (as_store c.args.self.now.holds) c.last_day.ensures
