@@ -1,31 +1,35 @@
 //! Days and versions as JSON.
 
-ghost use Rattle.std.specs.Prelude.{◌≡◌, ◌++◌, [], IfOk, OnOk, decimal, map, string_bytes};
-ghost use Rattle.serde_json.specs.Data.{array, object, string};
-ghost use Rattle.serde_json.specs.View.{items_of, members_view, view};
+ghost use Rattle.std.specs.Prelude.{◌≡◌, ℕ, List, OnOk, Some, codes, decimal, map, string_bytes};
+ghost use Rattle.serde_json.specs.Data.{array};
+ghost use Rattle.serde_json.specs.View.{items_of};
+ghost use Rattle.mds_calendar.specs.Calendar.{moment_of};
 ghost use Rattle.mds_marks.specs.Quality.{quality_text};
 ghost use Rattle.mds_marks.specs.Reading.{value_text};
-ghost use Rattle.mds_marks.specs.Reason.{code_text};
-ghost use Rattle.mds_terms.specs.Event.{trans_text as text_of_trans};
+ghost use Rattle.mds_marks.specs.Reason.{code_text as text_of_code};
+ghost use Rattle.mds_terms.specs.Event.{trans_text};
+ghost use Rattle.mds_terms.specs.Parts.{optional};
 ghost use Rattle.mds_answers.specs.Json.{IsDayData, IsEvent, IsVersion, IsVersionsData, reading_texts, texts};
+ghost use Rattle.mds_answers.specs.JsonSteps.{SendsMember, SendsText, SendsTexts};
 
-use crate::told::{ToJson, day_text, list_of, moment_text, optional_moment_text, put_text};
+use crate::told::{ToJson, digits_text, send_list, send_number, send_text};
 use itoa::Buffer;
 use mds_keeper::Version;
 use mds_messages::{DayAnswer, VersionsAnswer};
 use mds_quantity::Quantity;
-use mds_terms::{Event, Length, Quality, Reading, TransCode};
-use serde_json::{Map, Value, push, put};
-use std::alloc::{AllocError, Global};
+use mds_terms::{Event, Length, Moment, Quality, Reading, TransCode};
+use serde::Serializer;
+use std::alloc::AllocError;
+use std::str;
 
 /// The texts of its quality, of the code and of the text of its reason, and of its value.
 impl ToJson for Reading {
     ghost told_as = { λ reading json. json ≡ texts (reading_texts reading) };
 
-    fn to_json(&self, alloc: Global) -> Result<Value, AllocError> {
-        let mut list = Vec::new(alloc);
-        push_reading(&mut list, alloc, self)?;
-        Ok(Value::from(list))
+    fn send<S: Serializer>(&self, room: &mut String, out: &mut S) -> Result<(), S::Error> {
+        out.begin_seq(Some(4))?;
+        send_reading(self, room, out)?;
+        out.end_seq()
     }
 }
 
@@ -33,180 +37,184 @@ impl ToJson for Reading {
 impl ToJson for Version {
     ghost told_as = { IsVersion };
 
-    fn to_json(&self, alloc: Global) -> Result<Value, AllocError> {
-        let mut list = Vec::new(alloc);
-        push_version(&mut list, alloc, self)?;
-        Ok(Value::from(list))
+    fn send<S: Serializer>(&self, room: &mut String, out: &mut S) -> Result<(), S::Error> {
+        let update = self.update.digits();
+        out.begin_seq(Some(6))?;
+        out.str(digits_text(&update))?;
+        send_reading(&self.reading, room, out)?;
+        send_length(self.length, out)?;
+        out.end_seq()
     }
 }
 
-/// Appends the texts of a version. The list is borrowed, so that nothing is dropped if memory is refused.
-fn push_version(list: &mut Vec<Value>, alloc: Global, version: &Version) -> Result<(), AllocError>
-    requires none { list.old.items ≡ [] }
-    ensures { OnOk result (IsVersion version.now (array (items_of (map view list.new.items)))) }
-{
-    let update = moment_text(alloc, version.update)?;
-    push(list, Value::from(update))?;
-    push_reading(list, alloc, &version.reading)?;
-    let length = length_text(alloc, version.length)?;
-    push(list, Value::from(length))
-}
-
-/// Appends the texts of a reading. The list is borrowed, so that nothing is dropped if memory is refused.
-fn push_reading(list: &mut Vec<Value>, alloc: Global, reading: &Reading) -> Result<(), AllocError>
-    ensures { OnOk result (map view list.new.items
-        ≡ map view list.old.items ++ map string (reading_texts reading.now)) }
+/// Sends the texts of a reading. They take no memory of their own: that of the value is made in `room`, which is kept from reading to
+/// reading.
+fn send_reading<S: Serializer>(
+    reading: &Reading,
+    room: &mut String,
+    out: &mut S,
+) -> Result<(), S::Error>
+    ensures { OnOk result (SendsTexts (reading_texts reading.now) (S.written out.old) (S.written out.new)) }
 {
     let mark = reading.mark();
-    let quality = quality_text(alloc, mark.quality)?;
-    push(list, Value::from(quality))?;
-    let code = code_text(alloc, mark.reason.code())?;
-    push(list, Value::from(code))?;
-    push(list, Value::try_from_str(alloc, mark.reason.text())?)?;
-    let value = value_text(alloc, reading.value())?;
-    push(list, Value::from(value))
+    send_quality(mark.quality, out)?;
+    send_code(mark.reason.code(), out)?;
+    out.str(mark.reason.text())?;
+    send_value(reading.value(), room, out)
 }
 
-/// The text of a quality.
-fn quality_text(alloc: Global, quality: Quality) -> Result<String, AllocError>
-    ensures { IfOk result (λ text. string_bytes text ≡ quality_text quality) }
+/// Sends the text of a quality.
+fn send_quality<S: Serializer>(quality: Quality, out: &mut S) -> Result<(), S::Error>
+    ensures { OnOk result (SendsText (quality_text quality) (S.written out.old) (S.written out.new)) }
 {
-    let mut text = String::new(alloc);
-    quality.write_to(&mut text)?;
-    Ok(text)
+    let (letters, count) = quality.letters();
+    out.str(str::from_utf8(&letters[..count]).unwrap())
 }
 
-/// The text of a reason's code, or the empty text if it is absent.
-fn code_text(alloc: Global, code: Option<u16>) -> Result<String, AllocError>
-    ensures { IfOk result (λ text. string_bytes text ≡ code_text code) }
+/// Sends the text of a reason's code, or the empty text if it is absent.
+fn send_code<S: Serializer>(code: Option<u16>, out: &mut S) -> Result<(), S::Error>
+    ensures { OnOk result (SendsText (text_of_code code) (S.written out.old) (S.written out.new)) }
 {
-    let mut text = String::new(alloc);
-    if let Some(code) = code {
-        text.push_str(Buffer::new().format(code))?;
+    match code {
+        Some(code) => out.str(Buffer::new().format(code)),
+        None => out.str(""),
     }
-    Ok(text)
 }
 
-/// The text of a value, or the empty text if it is absent.
-fn value_text(alloc: Global, value: Option<Quantity>) -> Result<String, AllocError>
-    ensures { IfOk result (λ text. string_bytes text ≡ value_text value) }
+/// Sends the text of a value, or the empty text if it is absent.
+fn send_value<S: Serializer>(
+    value: Option<Quantity>,
+    room: &mut String,
+    out: &mut S,
+) -> Result<(), S::Error>
+    ensures { OnOk result (SendsText (value_text value) (S.written out.old) (S.written out.new)) }
 {
-    let mut text = String::new(alloc);
-    if let Some(value) = value {
-        value.write_to(&mut text)?;
+    match put_value(value, room) {
+        Ok(()) => out.str(room.as_str()),
+        Err(_) => Err(out.custom("there is no memory")),
     }
-    Ok(text)
 }
 
-/// The text of a length, its minutes.
-fn length_text(alloc: Global, length: Length) -> Result<String, AllocError>
-    ensures { IfOk result (λ text. string_bytes text ≡ decimal length) }
+/// Replaces a text by that of a value. It is empty if there is no value.
+fn put_value(value: Option<Quantity>, text: &mut String) -> Result<(), AllocError>
+    ensures { OnOk result (string_bytes text.new ≡ value_text value) }
 {
-    let mut text = String::new(alloc);
-    length.write_to(&mut text)?;
-    Ok(text)
+    text.clear();
+    let Some(value) = value else {
+        return Ok(());
+    };
+    value.write_to(text)
+}
+
+/// Sends the text of a length, its minutes.
+fn send_length<S: Serializer>(length: Length, out: &mut S) -> Result<(), S::Error>
+    ensures { OnOk result (SendsText (decimal length) (S.written out.old) (S.written out.new)) }
+{
+    out.str(Buffer::new().format(minutes_of(length)))
+}
+
+/// The minutes of a length.
+fn minutes_of(length: Length) -> u64
+    ensures { result ≡ length }
+{
+    length.minutes() as u64
 }
 
 /// Its transaction code, service order, moment of the read and index read.
 impl ToJson for Event {
     ghost told_as = { IsEvent };
 
-    fn to_json(&self, alloc: Global) -> Result<Value, AllocError> {
-        let mut list = Vec::new(alloc);
-        push_event(&mut list, alloc, self)?;
-        Ok(Value::from(list))
+    fn send<S: Serializer>(&self, room: &mut String, out: &mut S) -> Result<(), S::Error> {
+        out.begin_seq(Some(4))?;
+        send_trans(self.trans(), room, out)?;
+        out.str(self.ticket())?;
+        send_optional_moment(self.moment(), out)?;
+        out.str(self.reading())?;
+        out.end_seq()
     }
 }
 
-/// Appends the texts of an event. The list is borrowed, so that nothing is dropped if memory is refused.
-fn push_event(list: &mut Vec<Value>, alloc: Global, event: &Event) -> Result<(), AllocError>
-    requires none { list.old.items ≡ [] }
-    ensures { OnOk result (IsEvent event.now (array (items_of (map view list.new.items)))) }
+/// Sends the text of a transaction code, or the empty text if it is absent.
+fn send_trans<S: Serializer>(
+    trans: Option<TransCode>,
+    room: &mut String,
+    out: &mut S,
+) -> Result<(), S::Error>
+    ensures { OnOk result (SendsText (trans_text trans) (S.written out.old) (S.written out.new)) }
 {
-    let trans = trans_text(alloc, event.trans())?;
-    push(list, Value::from(trans))?;
-    push(list, Value::try_from_str(alloc, event.ticket())?)?;
-    let moment = optional_moment_text(alloc, event.moment())?;
-    push(list, Value::from(moment))?;
-    push(list, Value::try_from_str(alloc, event.reading())?)
+    match put_trans(trans, room) {
+        Ok(()) => out.str(room.as_str()),
+        Err(_) => Err(out.custom("there is no memory")),
+    }
 }
 
-/// The text of a transaction code, or the empty text if it is absent.
-fn trans_text(alloc: Global, trans: Option<TransCode>) -> Result<String, AllocError>
-    ensures { IfOk result (λ text. string_bytes text ≡ text_of_trans trans) }
+/// Replaces a text by that of a transaction code. It is empty if there is no code.
+fn put_trans(trans: Option<TransCode>, text: &mut String) -> Result<(), AllocError>
+    ensures { OnOk result (string_bytes text.new ≡ trans_text trans) }
 {
-    let mut text = String::new(alloc);
+    text.clear();
     if let Some(code) = trans {
         text.push(char::from(code.letter()))?;
     }
-    Ok(text)
+    Ok(())
 }
 
-/// Readings, in their order.
-fn readings_list(alloc: Global, readings: &[Reading]) -> Result<Value, AllocError>
-    ensures { IfOk result (λ value. view value
-        ≡ array (items_of (map (λ reading. texts (reading_texts reading)) readings.now))) }
+/// Sends the text of a moment, or the empty text if it is absent.
+fn send_optional_moment<S: Serializer>(moment: Option<Moment>, out: &mut S) -> Result<(), S::Error>
+    ensures { OnOk result ((text : List ℕ) × (optional moment_of text ≡ Some moment)
+        × SendsText text (S.written out.old) (S.written out.new)) }
 {
-    list_of(alloc, readings)
+    match moment {
+        Some(moment) => out.str(digits_text(&moment.digits())),
+        None => out.str(""),
+    }
 }
 
 /// A known day.
-pub(crate) fn day_value(alloc: Global, answer: &DayAnswer) -> Result<Value, AllocError>
-    ensures { IfOk result (λ value. IsDayData answer.now (view value)) }
-{
-    let mut members = Map::new(alloc);
-    put_day(&mut members, alloc, answer)?;
-    Ok(Value::Object(members))
+impl ToJson for DayAnswer {
+    ghost told_as = { IsDayData };
+
+    fn send<S: Serializer>(&self, room: &mut String, out: &mut S) -> Result<(), S::Error> {
+        let date = self.day.digits();
+        let update = self.update.digits();
+        out.begin_map(Some(8))?;
+        send_text("date", digits_text(&date), out)?;
+        send_list("events", &self.events, room, out)?;
+        send_number("length", minutes_of(self.length), out)?;
+        send_text("nmi", self.stream.nmi.text(), out)?;
+        send_readings(&self.readings, room, out)?;
+        send_text("suffix", self.stream.suffix.text(), out)?;
+        send_text("unit", self.unit.text(), out)?;
+        send_text("update", digits_text(&update), out)?;
+        out.end_map()
+    }
 }
 
-/// Puts the members of a known day. The object is borrowed, so that nothing is dropped if memory is
-/// refused.
-fn put_day(
-    members: &mut Map<String, Value>,
-    alloc: Global,
-    answer: &DayAnswer,
-) -> Result<(), AllocError>
-    requires none { members.old.entries ≡ [] }
-    ensures { OnOk result (IsDayData answer.now (object (members_view members.new.entries))) }
+/// Sends a member with readings, in their order.
+fn send_readings<S: Serializer>(
+    readings: &[Reading],
+    room: &mut String,
+    out: &mut S,
+) -> Result<(), S::Error>
+    ensures { OnOk result (SendsMember (codes "readings")
+        (array (items_of (map (λ reading. texts (reading_texts reading)) readings.now)))
+        (S.written out.old) (S.written out.new)) }
 {
-    let date = day_text(alloc, answer.day)?;
-    put(members, alloc, "date", Value::from(date))?;
-    let events = list_of(alloc, &answer.events)?;
-    put(members, alloc, "events", events)?;
-    let length = answer.length.minutes() as u64;
-    put(members, alloc, "length", Value::from(length))?;
-    put_text(members, alloc, "nmi", answer.stream.nmi.text())?;
-    let readings = readings_list(alloc, &answer.readings)?;
-    put(members, alloc, "readings", readings)?;
-    put_text(members, alloc, "suffix", answer.stream.suffix.text())?;
-    put_text(members, alloc, "unit", answer.unit.text())?;
-    let update = moment_text(alloc, answer.update)?;
-    put(members, alloc, "update", Value::from(update))
+    send_list("readings", readings, room, out)
 }
 
 /// The versions of an interval.
-pub(crate) fn versions_value(alloc: Global, answer: &VersionsAnswer) -> Result<Value, AllocError>
-    ensures { IfOk result (λ value. IsVersionsData answer.now (view value)) }
-{
-    let mut members = Map::new(alloc);
-    put_versions(&mut members, alloc, answer)?;
-    Ok(Value::Object(members))
-}
+impl ToJson for VersionsAnswer {
+    ghost told_as = { IsVersionsData };
 
-/// Puts the members of the versions of an interval.
-fn put_versions(
-    members: &mut Map<String, Value>,
-    alloc: Global,
-    answer: &VersionsAnswer,
-) -> Result<(), AllocError>
-    requires none { members.old.entries ≡ [] }
-    ensures { OnOk result (IsVersionsData answer.now (object (members_view members.new.entries))) }
-{
-    let date = day_text(alloc, answer.day)?;
-    put(members, alloc, "date", Value::from(date))?;
-    put(members, alloc, "interval", Value::from(answer.interval))?;
-    put_text(members, alloc, "nmi", answer.stream.nmi.text())?;
-    put_text(members, alloc, "suffix", answer.stream.suffix.text())?;
-    let versions = list_of(alloc, &answer.versions)?;
-    put(members, alloc, "versions", versions)
+    fn send<S: Serializer>(&self, room: &mut String, out: &mut S) -> Result<(), S::Error> {
+        let date = self.day.digits();
+        out.begin_map(Some(5))?;
+        send_text("date", digits_text(&date), out)?;
+        send_number("interval", u64::from(self.interval), out)?;
+        send_text("nmi", self.stream.nmi.text(), out)?;
+        send_text("suffix", self.stream.suffix.text(), out)?;
+        send_list("versions", &self.versions, room, out)?;
+        out.end_map()
+    }
 }

@@ -1,29 +1,17 @@
 //! The JSON text of an answer.
 
 ghost use Rattle.std.specs.Prelude.{◌≡◌, ◌+◌, ◌≤◌, ◌++◌, ℕ, List, true, false, codes, is_ok, IfOk, OnOk, OnErr, vec_capacity, vec_len};
-ghost use Rattle.serde_json.specs.View.{view};
 ghost use Rattle.serde_json.specs.Written.{compact_text};
 ghost use Rattle.mds_quantity.specs.Append.{Appends};
 ghost use Rattle.mds_messages.specs.declared.answer.Answer.{Answer as AnAnswer};
 ghost use Rattle.mds_messages.specs.Answers.{has_list, has_text};
-ghost use Rattle.mds_answers.specs.Json.{IsData, IsJson, refused, short_room};
+ghost use Rattle.mds_answers.specs.Json.{IsJson, refused, short_room};
 
-use crate::days::{day_value, versions_value};
-use crate::periods::periods_value;
+use crate::listed::list_json;
 use crate::short::{holidays_line, line_of};
-use crate::streams::streams_value;
 use mds_messages::Answer;
 use mds_terms::{one_day_text, one_moment_text};
-use serde_json::Value;
 use std::alloc::{AllocError, Global};
-
-/// The JSON text of an answer with a list: compact, with keys in the order of their bytes, and whole numbers.
-pub fn list_json(alloc: Global, answer: &Answer) -> Result<Vec<u8>, AllocError>
-    requires { has_list answer.now ≡ true }
-    ensures { IfOk result (λ text. IsJson answer.now text.items) }
-{
-    value_of(alloc, answer)?.to_vec(alloc)
-}
 
 /// Appends the JSON text of an answer without a list, in the same form. It fits in 160 bytes, and takes no memory if there is room
 /// for them. If it runs out of memory, nothing is appended.
@@ -50,20 +38,6 @@ pub fn answer_json(alloc: Global, answer: &Answer, out: &mut Vec<u8>) -> Result<
         return out.extend_from_slice(&text);
     }
     short_json(answer, out)
-}
-
-/// The JSON value of an answer with a list.
-fn value_of(alloc: Global, answer: &Answer) -> Result<Value, AllocError>
-    requires { has_list answer.now ≡ true }
-    ensures { IfOk result (λ value. IsData answer.now (view value)) }
-{
-    match answer {
-        Answer::Day(answer) => day_value(alloc, answer),
-        Answer::Versions(answer) => versions_value(alloc, answer),
-        Answer::Period(answer) => periods_value(alloc, answer),
-        Answer::Streams(answers) => streams_value(alloc, answers),
-        _ => unreachable!(),
-    }
 }
 
 /// Appends the JSON text for a list of holidays that differs from some row on, counted from 1. The row is its `line`. It takes no

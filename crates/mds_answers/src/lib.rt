@@ -10,9 +10,11 @@
 
 mod days;
 mod json;
+mod listed;
 mod periods;
 mod short;
 mod streams;
 mod told;
 
-pub use json::{answer_json, holidays_json, list_json, one_json, short_json};
+pub use json::{answer_json, holidays_json, one_json, short_json};
+pub use listed::list_json;

@@ -1,46 +1,78 @@
 //! Accumulations as JSON.
 
-ghost use Rattle.std.specs.Prelude.{◌≡◌, ◌<◌, IfOk, map, string_bytes, vec_len};
+ghost use Rattle.std.specs.Prelude.{◌≡◌, ◌<◌, IfOk, OnOk, map, string_bytes, vec_len};
 ghost use Rattle.std.specs.List.{slice_split};
-ghost use Rattle.serde_json.specs.View.{view};
+ghost use Rattle.serde_json.specs.Data.{array};
+ghost use Rattle.serde_json.specs.Events.{SendsValue};
+ghost use Rattle.serde_json.specs.View.{items_of, view};
 ghost use Rattle.mds_statements.specs.Bodies.{IsPeriodBody};
 ghost use Rattle.mds_statements.specs.Contents.{content_of, is_line_feed, texts_of};
 ghost use Rattle.mds_answers.specs.Json.{ArePeriods, IsPeriod, texts};
+ghost use Rattle.mds_answers.specs.JsonSteps.{SendsMember, content_json, parts_json};
 
-use crate::told::{ToJson, list_of, texts_of};
+use crate::told::{ToJson, send_list, send_text, texts_of};
 use mds_messages::PeriodAnswer;
 use mds_statements::Period;
-use serde_json::{Value, json};
+use serde::{Serialize, Serializer};
+use serde_json::Value;
 use std::alloc::{AllocError, Global};
 
 /// Its fields followed by its update, and its notes: the lines of its body.
 impl ToJson for Period {
     ghost told_as = { IsPeriod };
 
-    fn to_json(&self, alloc: Global) -> Result<Value, AllocError> {
-        let body = body_of(alloc, self)?;
-        let (fields, notes) = parts_of(alloc, &body)?;
-        json!(in alloc; {"fields": fields, "notes": notes})
+    fn send<S: Serializer>(&self, room: &mut String, out: &mut S) -> Result<(), S::Error> {
+        match put_body(self, room) {
+            Ok(()) => send_body(*room.allocator(), room.as_str(), out),
+            Err(_) => Err(out.custom("there is no memory")),
+        }
     }
 }
 
-/// The body of an accumulation.
-fn body_of(alloc: Global, period: &Period) -> Result<String, AllocError>
-    ensures { IfOk result (λ body. IsPeriodBody period.now (string_bytes body)) }
+/// Replaces a text by the body of an accumulation.
+fn put_body(period: &Period, text: &mut String) -> Result<(), AllocError>
+    ensures { OnOk result (IsPeriodBody period.now (string_bytes text.new)) }
 {
-    let mut body = String::new(alloc);
-    period.write_body(&mut body)?;
-    Ok(body)
+    text.clear();
+    period.write_body(text)
+}
+
+/// Sends the fields that a body says, and its notes.
+fn send_body<S: Serializer>(alloc: Global, body: &str, out: &mut S) -> Result<(), S::Error>
+    ensures { OnOk result (SendsValue (content_json (content_of body.now)) (S.written out.old) (S.written out.new)) }
+{
+    match parts_of(alloc, body) {
+        Ok(parts) => send_parts(&parts.0, &parts.1, out),
+        Err(_) => Err(out.custom("there is no memory")),
+    }
+}
+
+/// Sends fields and notes. Their values are lent, so that they are dropped in one place.
+fn send_parts<S: Serializer>(fields: &Value, notes: &Value, out: &mut S) -> Result<(), S::Error>
+    ensures { OnOk result (SendsValue (parts_json (view fields.now) (view notes.now)) (S.written out.old) (S.written out.new)) }
+{
+    out.begin_map(Some(2))?;
+    send_value("fields", fields, out)?;
+    send_value("notes", notes, out)?;
+    out.end_map()
+}
+
+/// Sends a member with a value.
+fn send_value<S: Serializer>(name: &str, value: &Value, out: &mut S) -> Result<(), S::Error>
+    ensures { OnOk result (SendsMember name.now (view value.now) (S.written out.old) (S.written out.new)) }
+{
+    out.key(name)?;
+    value.serialize(out)
 }
 
 /// The fields that a body says, and its notes.
-fn parts_of(alloc: Global, body: &str) -> Result<(Value, Vec<Value>), AllocError>
+fn parts_of(alloc: Global, body: &str) -> Result<(Value, Value), AllocError>
     ensures { IfOk result (λ parts. (view parts.0 ≡ texts (content_of body.now).fields)
-        × (map view parts.1.items ≡ map texts (content_of body.now).notes)) }
+        × (view parts.1 ≡ array (items_of (map texts (content_of body.now).notes)))) }
 {
     let mut lines = lines_of(alloc, body)?;
     let fields = lines.remove(0);
-    Ok((fields, lines))
+    Ok((fields, Value::from(lines)))
 }
 
 /// The lines of a text, each as the list of its texts.
@@ -57,13 +89,14 @@ fn lines_of(alloc: Global, text: &str) -> Result<Vec<Value>, AllocError>
 }
 
 /// The accumulations of a stream.
-pub(crate) fn periods_value(alloc: Global, answer: &PeriodAnswer) -> Result<Value, AllocError>
-    ensures { IfOk result (λ value. ArePeriods answer.now (view value)) }
-{
-    let periods = list_of(alloc, &answer.periods)?;
-    json!(in alloc; {
-        "nmi": answer.stream.nmi.text(),
-        "periods": periods,
-        "suffix": answer.stream.suffix.text(),
-    })
+impl ToJson for PeriodAnswer {
+    ghost told_as = { ArePeriods };
+
+    fn send<S: Serializer>(&self, room: &mut String, out: &mut S) -> Result<(), S::Error> {
+        out.begin_map(Some(3))?;
+        send_text("nmi", self.stream.nmi.text(), out)?;
+        send_list("periods", &self.periods, room, out)?;
+        send_text("suffix", self.stream.suffix.text(), out)?;
+        out.end_map()
+    }
 }

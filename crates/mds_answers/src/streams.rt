@@ -1,51 +1,40 @@
 //! The known streams as JSON.
 
-ghost use Rattle.std.specs.Prelude.{◌≡◌, [], IfOk, OnOk};
-ghost use Rattle.serde_json.specs.Data.{object};
-ghost use Rattle.serde_json.specs.View.{members_view, view};
+ghost use Rattle.std.specs.Prelude.{OnOk};
 ghost use Rattle.mds_answers.specs.Json.{AreStreams, IsStream};
+ghost use Rattle.mds_answers.specs.JsonSteps.{Tells};
 
-use crate::told::{ToJson, list_of, optional_day_text, put_text};
+use crate::told::{ToJson, send_list, send_optional_day, send_text};
 use mds_messages::StreamAnswer;
-use serde_json::{Map, Value, json, put};
-use std::alloc::{AllocError, Global};
+use serde::Serializer;
 
 /// Its names, and its details.
 impl ToJson for StreamAnswer {
     ghost told_as = { IsStream };
 
-    fn to_json(&self, alloc: Global) -> Result<Value, AllocError> {
-        let mut members = Map::new(alloc);
-        put_stream(&mut members, alloc, self)?;
-        Ok(Value::Object(members))
+    fn send<S: Serializer>(&self, _room: &mut String, out: &mut S) -> Result<(), S::Error> {
+        let details = &self.details;
+        out.begin_map(Some(7))?;
+        send_text("configuration", details.configuration(), out)?;
+        send_text("datastream", details.datastream(), out)?;
+        send_text("meter", details.meter(), out)?;
+        send_optional_day("next", details.next(), out)?;
+        send_text("nmi", self.stream.nmi.text(), out)?;
+        send_text("register", details.register(), out)?;
+        send_text("suffix", self.stream.suffix.text(), out)?;
+        out.end_map()
     }
 }
 
-/// Puts the members of a known stream. The object is borrowed, so that nothing is dropped if memory is
-/// refused.
-fn put_stream(
-    members: &mut Map<String, Value>,
-    alloc: Global,
-    answer: &StreamAnswer,
-) -> Result<(), AllocError>
-    requires none { members.old.entries ≡ [] }
-    ensures { OnOk result (IsStream answer.now (object (members_view members.new.entries))) }
+/// Sends the known streams.
+pub(crate) fn send_streams<S: Serializer>(
+    answers: &[StreamAnswer],
+    room: &mut String,
+    out: &mut S,
+) -> Result<(), S::Error>
+    ensures { OnOk result (Tells AreStreams answers.now (S.written out.old) (S.written out.new)) }
 {
-    let details = &answer.details;
-    put_text(members, alloc, "configuration", details.configuration())?;
-    put_text(members, alloc, "datastream", details.datastream())?;
-    put_text(members, alloc, "meter", details.meter())?;
-    let next = optional_day_text(alloc, details.next())?;
-    put(members, alloc, "next", Value::from(next))?;
-    put_text(members, alloc, "nmi", answer.stream.nmi.text())?;
-    put_text(members, alloc, "register", details.register())?;
-    put_text(members, alloc, "suffix", answer.stream.suffix.text())
-}
-
-/// The known streams.
-pub(crate) fn streams_value(alloc: Global, answers: &[StreamAnswer]) -> Result<Value, AllocError>
-    ensures { IfOk result (λ value. AreStreams answers.now (view value)) }
-{
-    let streams = list_of(alloc, answers)?;
-    json!(in alloc; {"streams": streams})
+    out.begin_map(Some(1))?;
+    send_list("streams", answers, room, out)?;
+    out.end_map()
 }

@@ -1,38 +1,91 @@
-//! What is listed in answers, as JSON values, and the texts in them.
+//! What is listed in answers, as it is sent to the writer of JSON, and the texts in it.
 
-ghost use Rattle.std.specs.Prelude.{◌≡◌, List, Some, IfOk, OnOk, string_bytes};
-ghost use Rattle.std.specs.List.{slice_split};
-ghost use Rattle.serde_json.specs.Data.{Data, array, put as with_member, string};
-ghost use Rattle.serde_json.specs.View.{items_of, members_view, view};
-ghost use Rattle.mds_calendar.specs.Calendar.{day_of, moment_of};
+ghost use Rattle.std.specs.Prelude.{◌≡◌, ℕ, true, List, Some, IfOk, OnOk};
+ghost use Rattle.std.specs.Char.{is_ascii_digit};
+ghost use Rattle.std.specs.List.{list_all, slice_split};
+ghost use Rattle.serde_json.specs.Data.{Data, array, string};
+ghost use Rattle.serde_json.specs.View.{items_of, view};
+ghost use Rattle.mds_calendar.specs.Calendar.{day_of};
 ghost use Rattle.mds_names.specs.Names.{is_comma};
 ghost use Rattle.mds_terms.specs.Parts.{optional};
-ghost use Rattle.mds_answers.specs.Json.{AreEach, texts};
+ghost use Rattle.mds_answers.specs.Json.{AreEach, texts, whole};
+ghost use Rattle.mds_answers.specs.JsonSteps.{SendsMember, Tells};
 
-use mds_terms::{Day, Moment};
-use serde_json::{Map, Value, put};
+use mds_terms::Day;
+use serde::Serializer;
+use serde_json::Value;
 use std::alloc::{AllocError, Global};
+use std::str;
 
-/// What can be written as JSON.
+/// What can be sent as JSON.
 pub(crate) trait ToJson {
     /// Which JSON data say it.
     ghost told_as: { Self → Data → Type 0 };
 
-    /// The JSON value that says it.
-    fn to_json(&self, alloc: Global) -> Result<Value, AllocError>
-        ensures { IfOk result (λ value. told_as self.now (view value)) };
+    /// Sends the JSON data that say it. A text that has to be made is made in `room`.
+    fn send<S: Serializer>(&self, room: &mut String, out: &mut S) -> Result<(), S::Error>
+        ensures { OnOk result (Tells told_as self.now (S.written out.old) (S.written out.new)) };
 }
 
-/// The list of the values of all things, in their order.
-pub(crate) fn list_of<T: ToJson>(alloc: Global, things: &[T]) -> Result<Value, AllocError>
-    ensures { IfOk result (λ value. (json : List Data) × AreEach T.told_as things.now json
-        × (view value ≡ array (items_of json))) }
+/// Sends a member: the list of all things, in their order.
+pub(crate) fn send_list<T: ToJson, S: Serializer>(
+    name: &str,
+    things: &[T],
+    room: &mut String,
+    out: &mut S,
+) -> Result<(), S::Error>
+    ensures { OnOk result ((told : List Data) × AreEach T.told_as things.now told
+        × SendsMember name.now (array (items_of told)) (S.written out.old) (S.written out.new)) }
 {
-    let mut list = Vec::new(alloc);
+    out.key(name)?;
+    out.begin_seq(Some(things.len()))?;
     for thing in things {
-        list.push(thing.to_json(alloc)?)?;
+        thing.send(room, out)?;
     }
-    Ok(Value::from(list))
+    out.end_seq()
+}
+
+/// Sends a member with a text.
+pub(crate) fn send_text<S: Serializer>(name: &str, text: &str, out: &mut S) -> Result<(), S::Error>
+    ensures { OnOk result (SendsMember name.now (string text.now) (S.written out.old) (S.written out.new)) }
+{
+    out.key(name)?;
+    out.str(text)
+}
+
+/// Sends a member with a whole number.
+pub(crate) fn send_number<S: Serializer>(
+    name: &str,
+    number: u64,
+    out: &mut S,
+) -> Result<(), S::Error>
+    ensures { OnOk result (SendsMember name.now (whole number) (S.written out.old) (S.written out.new)) }
+{
+    out.key(name)?;
+    out.u64(number)
+}
+
+/// Sends a member with the text of a day, or with the empty text if the day is absent.
+pub(crate) fn send_optional_day<S: Serializer>(
+    name: &str,
+    day: Option<Day>,
+    out: &mut S,
+) -> Result<(), S::Error>
+    ensures { OnOk result ((text : List ℕ) × (optional day_of text ≡ Some day)
+        × SendsMember name.now (string text) (S.written out.old) (S.written out.new)) }
+{
+    match day {
+        Some(day) => send_text(name, digits_text(&day.digits()), out),
+        None => send_text(name, "", out),
+    }
+}
+
+/// Digits as a text.
+pub(crate) fn digits_text(digits: &[u8]) -> &str
+    requires { list_all is_ascii_digit digits.now ≡ true }
+    ensures { result.now ≡ digits.now }
+{
+    str::from_utf8(digits).unwrap()
 }
 
 /// The list of the texts between the commas of a text.
@@ -44,58 +97,4 @@ pub(crate) fn texts_of(alloc: Global, text: &str) -> Result<Value, AllocError>
         list.push(Value::try_from_str(alloc, part)?)?;
     }
     Ok(Value::from(list))
-}
-
-/// Puts a text under a name.
-pub(crate) fn put_text(
-    members: &mut Map<String, Value>,
-    alloc: Global,
-    name: &str,
-    text: &str,
-) -> Result<(), AllocError>
-    ensures { OnOk result (members_view members.new.entries
-        ≡ with_member name.now (string text.now) (members_view members.old.entries)) }
-{
-    put(members, alloc, name, Value::try_from_str(alloc, text)?)
-}
-
-/// The text of a day, CCYYMMDD.
-pub(crate) fn day_text(alloc: Global, day: Day) -> Result<String, AllocError>
-    ensures { IfOk result (λ text. day_of (string_bytes text) ≡ Some day) }
-{
-    let mut text = String::new(alloc);
-    day.write_to(&mut text)?;
-    Ok(text)
-}
-
-/// The text of a moment, CCYYMMDDhhmmss.
-pub(crate) fn moment_text(alloc: Global, moment: Moment) -> Result<String, AllocError>
-    ensures { IfOk result (λ text. moment_of (string_bytes text) ≡ Some moment) }
-{
-    let mut text = String::new(alloc);
-    moment.write_to(&mut text)?;
-    Ok(text)
-}
-
-/// The text of a day, or the empty text if it is absent.
-pub(crate) fn optional_day_text(alloc: Global, day: Option<Day>) -> Result<String, AllocError>
-    ensures { IfOk result (λ text. optional day_of (string_bytes text) ≡ Some day) }
-{
-    match day {
-        Some(day) => day_text(alloc, day),
-        None => Ok(String::new(alloc)),
-    }
-}
-
-/// The text of a moment, or the empty text if it is absent.
-pub(crate) fn optional_moment_text(
-    alloc: Global,
-    moment: Option<Moment>,
-) -> Result<String, AllocError>
-    ensures { IfOk result (λ text. optional moment_of (string_bytes text) ≡ Some moment) }
-{
-    match moment {
-        Some(moment) => moment_text(alloc, moment),
-        None => Ok(String::new(alloc)),
-    }
 }
