@@ -4,12 +4,13 @@ ghost use Rattle.std.specs.Prelude.{◌≡◌, ◌≢◌, [], MatchResult, map};
 ghost use Rattle.mds_requests.specs.QuerySteps.{texts_of};
 ghost use Rattle.mds_requests.specs.Targets.{AskForQueryAt, AskForQueryBy, AsksNothing};
 ghost use Rattle.mds_requests.specs.TargetSteps.{IsBad};
+ghost use Rattle.mds_wire.specs.Routes.{part};
 
 use crate::query::Query;
 use crate::targets::TargetFault;
 use mds_arguments::{FoundWords, QueryName, found_request};
 use mds_messages::Request;
-use mds_wire::part;
+use mds_wire::first_part;
 
 /// Finds words in the pairs of a query: each is the value of a name that occurs once.
 #[derive(Drop)]
@@ -28,10 +29,40 @@ impl<'q, 'a> FoundWords<'q> for PairWords<'q, 'a> {
     }
 }
 
-/// Finds words in a path: each is a part behind the name of the route.
-#[derive(Drop)]
+/// Finds words in a path: each is a part behind the name of the route. The path is split once for all of them.
+#[derive(Clone, Copy)]
 struct PathWords<'p> {
     path: &'p [u8],
+    nmi: &'p [u8],
+    suffix: &'p [u8],
+    date: &'p [u8],
+    interval: &'p [u8],
+    ghost third: { nmi.now ≡ part 3 path.now },
+    ghost fourth: { suffix.now ≡ part 4 path.now },
+    ghost fifth: { date.now ≡ part 5 path.now },
+    ghost sixth: { interval.now ≡ part 6 path.now },
+}
+
+impl<'p> PathWords<'p> {
+    /// The words in a path.
+    fn of(path: &'p [u8]) -> PathWords<'p>
+        ensures { result.path.now ≡ path.now }
+    {
+        let front = first_part(path);
+        let version = first_part(front.1);
+        let name = first_part(version.1);
+        let nmi = first_part(name.1);
+        let suffix = first_part(nmi.1);
+        let date = first_part(suffix.1);
+        let interval = first_part(date.1);
+        PathWords {
+            path,
+            nmi: nmi.0,
+            suffix: suffix.0,
+            date: date.0,
+            interval: interval.0,
+        }
+    }
 }
 
 impl<'p> FoundWords<'p> for PathWords<'p> {
@@ -41,10 +72,10 @@ impl<'p> FoundWords<'p> for PathWords<'p> {
 
     fn find(&self, name: &str) -> Option<&'p [u8]> {
         match name {
-            "nmi" => Some(part(self.path, 3)),
-            "suffix" => Some(part(self.path, 4)),
-            "date" => Some(part(self.path, 5)),
-            "interval" => Some(part(self.path, 6)),
+            "nmi" => Some(self.nmi),
+            "suffix" => Some(self.suffix),
+            "date" => Some(self.date),
+            "interval" => Some(self.interval),
             _ => None,
         }
     }
@@ -72,5 +103,12 @@ pub(crate) fn asked_by_pairs(
 pub(crate) fn asked_by_path(query: QueryName, path: &[u8]) -> Result<Request, TargetFault>
     ensures { MatchResult result (AskForQueryAt query path.now) (IsBad (AskForQueryAt query path.now)) }
 {
-    Ok(found_request(query, &PathWords { path })?)
+    asked_by_words(query, &PathWords::of(path))
+}
+
+/// The request for a query whose words were found in a path.
+fn asked_by_words(query: QueryName, words: &PathWords<'_>) -> Result<Request, TargetFault>
+    ensures { MatchResult result (AskForQueryAt query words.now.path.now) (IsBad (AskForQueryAt query words.now.path.now)) }
+{
+    Ok(found_request(query, words)?)
 }

@@ -22,4 +22,4 @@ pub use answer::{Kind, Status};
 pub use laws::laws_of;
 pub use route::{Route, RouteFinder, Routes};
 pub use serve::{Failed, Handler, WireFault, serve_one};
-pub use target::{part, path_of, query_of};
+pub use target::{first_part, path_of, query_of};

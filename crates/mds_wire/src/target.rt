@@ -1,6 +1,6 @@
 //! The parts of a target (RFC 9112, section 3.2.1).
 
-ghost use Rattle.std.specs.Prelude.{◌≡◌, ◌≤◌, ◌+◌, length, drop};
+ghost use Rattle.std.specs.Prelude.{◌≡◌, ◌≤◌, ◌+◌, ℕ, suc, length, drop};
 ghost use Rattle.mds_wire.specs.Judging.{mark_place, path_of, query_of};
 ghost use Rattle.mds_wire.specs.Routes.{part};
 
@@ -42,14 +42,12 @@ pub fn query_of(target: &[u8]) -> &[u8]
     behind(target, mark_place(target))
 }
 
-/// The part of a path with this number: the bytes between two slashes. Part 0 comes before the first slash, where a path has
-/// nothing.
-pub fn part(path: &[u8], number: usize) -> &[u8]
-    ensures { result.now ≡ part number path.now }
+/// The part of a path before its first slash, and what follows that slash: the path from its next part on. A path has nothing before
+/// its first slash, so its part 0 is empty.
+pub fn first_part(path: &[u8]) -> (&[u8], &[u8])
+    ensures first { result.0.now ≡ part 0 path.now }
+    ensures rest { (number : ℕ) → part (suc number) path.now ≡ part number result.1.now }
 {
-    let mut rest = path;
-    for _ in 0..number {
-        rest = behind(rest, part_length(rest));
-    }
-    &rest[..part_length(rest)]
+    let length = part_length(path);
+    (&path[..length], behind(path, length))
 }
