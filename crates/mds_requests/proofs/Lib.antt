@@ -1,5 +1,6 @@
 pub mod HolidayLists
 pub mod HolidayRows
+pub mod ImportKinds
 pub mod JobKeys
 pub mod JobTexts
 pub mod Nothing

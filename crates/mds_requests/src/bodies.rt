@@ -1,6 +1,6 @@
 //! What a body asks for.
 
-ghost use Rattle.std.specs.Prelude.{◌≡◌, ◌≢◌, ◌↔◌, [], ◌∷◌, map, IfOk, IsTrue, MatchResult, OnErr};
+ghost use Rattle.std.specs.Prelude.{◌≡◌, ◌≢◌, ◌↔◌, [], ◌∷◌, IfOk, IsTrue, MatchResult, OnErr};
 ghost use Rattle.mds_requests.specs.Asking.{Asks};
 ghost use Rattle.mds_requests.specs.QuerySteps.{texts_of};
 ghost use Rattle.mds_requests.specs.Queries.{pairs_of};
@@ -25,7 +25,7 @@ pub(crate) fn import_asked(
     ensures { MatchResult result (AskForImportBy (texts_of query.now) body.items)
         (AsksNothing (texts_of query.now ≢ []) (AskForImportBy (texts_of query.now) body.items)) }
 {
-    match kind_asked(alloc, query)? {
+    match kind_asked(query) {
         Some(kind) => file_asked(alloc, FileCommand::Import(kind), body),
         None => Err(TargetFault::Bad),
     }
@@ -41,30 +41,23 @@ pub fn imports_interval_data(alloc: Global, route: Route, target: &[u8]) -> Resu
         return Ok(false);
     }
     let query = Query::read(alloc, query_of(target))?;
-    let kind = kind_asked(alloc, &query)?;
+    let kind = kind_asked(&query);
     Ok(matches!(kind, Some(FileKind::Nem12)))
 }
 
-/// The kind of file whose import a query asks for. `None` if it asks for no import.
-fn kind_asked(alloc: Global, query: &Query<'_>) -> Result<Option<FileKind>, AllocError>
-    ensures ok { IfOk result (λ kind. kind ≡ kind_asked (texts_of query.now)) }
-    ensures err { OnErr result (texts_of query.now ≢ []) }
+/// The kind of file whose import a query asks for: interval data if it has no pair. `None` if it asks for no import.
+fn kind_asked(query: &Query<'_>) -> Option<FileKind>
+    ensures { result ≡ kind_asked (texts_of query.now) }
 {
     if !query.has_only(&[], &["kind"]) {
-        return Ok(None);
+        return None;
     }
-    let kinds = query.values(alloc, "kind")?;
-    Ok(kind_named(&kinds))
-}
-
-/// The kind of file that names mean: interval data if there is no name.
-fn kind_named(names: &[&[u8]]) -> Option<FileKind>
-    ensures { result ≡ kind_named (map (λ name. name.now) names.now) }
-{
-    match names {
-        [] => Some(FileKind::Nem12),
-        [name] => kind_of(name),
-        _ => None,
+    if query.is_empty() {
+        return Some(FileKind::Nem12);
+    }
+    match query.value("kind") {
+        Some(name) => kind_of(name),
+        None => None,
     }
 }
 
