@@ -3,7 +3,7 @@
 //! It decides M1, M2 and M3 of a file's days (`DayMerge::take`, `head_conflict`), what counts as added and known, and
 //! what a day shows (`DayBook`). `RefusalCode::text` has the codes of all refusals.
 //! Called by `mds_service`, `mds_fill`, `mds_registers` and `mds_ranges`, over any keeper. `mds_memory` and
-//! `mds_pack_store` implement `Keeper`.
+//! `mds_store` implement `Keeper`.
 //! Must not change: what each call of `Keeper` promises (`specs/Kept.antt`, `specs/Queries.antt`), which both keepers
 //! prove. The first line that breaks a rule is refused, by M1 before M2 before M3. `Additions` hold only what isn't
 //! kept yet.

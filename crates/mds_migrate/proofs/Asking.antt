@@ -14,9 +14,9 @@ use Rattle.mds_pack_rows.specs.DailyTables.{schema_3}
 use Rattle.mds_pack_rows.specs.PackTables.{schema_2}
 use Rattle.mds_pack_rows.specs.PacksLayout.{packs_layout}
 use Rattle.mds_pack_rows.proofs.TwoSchemas.{not_of}
-use Rattle.mds_pack_store.specs.Daily.{AreDaily, IsDailyStore}
-use Rattle.mds_pack_store.specs.Formed.{AreFormed, IsFormedStore}
-use Rattle.mds_pack_store.specs.Packed.{ArePacked, IsPackedStore}
+use Rattle.mds_store.specs.Daily.{AreDaily, IsDailyStore}
+use Rattle.mds_store.specs.CurrentStore.{AreCurrent, IsCurrentStore}
+use Rattle.mds_store.specs.Packed.{ArePacked, IsPackedStore}
 use Rattle.mds_migrate.specs.declared.outcome.Migrated.{Migrated}
 use Rattle.mds_migrate.specs.declared.outcome.Migrated.TheVariants.{Done}
 use Rattle.mds_migrate.specs.declared.outcome.MigrateFault.{MigrateFault}
@@ -97,8 +97,8 @@ module _ (old mid : State) (kept : HasCleanDisk mid → KeepsCommit old mid) (on
         bare = it.bare;
       }
 
-  pub is_formed : HoldsTablesOf current_layout old → (HasCleanDisk mid → AreFormed old.committed.trees)
-      → HasCleanDisk mid → IsTrue mid.is_open → IsFormedStore old.committed
+  pub is_formed : HoldsTablesOf current_layout old → (HasCleanDisk mid → AreCurrent old.committed.trees)
+      → HasCleanDisk mid → IsTrue mid.is_open → IsCurrentStore old.committed
   is_formed held are clean is_open =
       let it = are clean in
       record {
@@ -116,7 +116,7 @@ module _ (old mid : State) (kept : HasCleanDisk mid → KeepsCommit old mid) (on
 
 -- a database of one schema, which isn't a store of it, is none of any
 abbrev IsNone : Database → Type 0
-IsNone db = (IsStore db → ⊥) × (IsPackedStore db → ⊥) × (IsDailyStore db → ⊥) × (IsFormedStore db → ⊥)
+IsNone db = (IsStore db → ⊥) × (IsPackedStore db → ⊥) × (IsDailyStore db → ⊥) × (IsCurrentStore db → ⊥)
 
 pub none_of_1 : (db : Database) → db.schema ≡ schema_1 → (versions_said db.trees ≡ pos 1 ∷ [] → ⊥) → IsNone db
 none_of_1 db has other = (
@@ -142,7 +142,7 @@ none_of_3 db has other = (
   (λ is. not_of current_layout schema_3 db has (λ same. omega (arith, same)) is.store),
 )
 
-pub none_of_4 : (db : Database) → db.schema ≡ current_schema → (AreFormed db.trees → ⊥) → IsNone db
+pub none_of_4 : (db : Database) → db.schema ≡ current_schema → (AreCurrent db.trees → ⊥) → IsNone db
 none_of_4 db has other = (
   (λ store. not_of rows_layout current_schema db has (λ same. omega (arith, same)) store),
   (λ is. not_of packs_layout current_schema db has (λ same. omega (arith, same)) is.store),

@@ -4,8 +4,8 @@ use Rattle.sqlite.specs.Effect.{Database}
 use Rattle.sqlite.specs.State.{State}
 use Rattle.sqlite_schema.specs.declared.schema.Schema.{Schema}
 use Rattle.mds_tables.specs.Stores.{Gains}
-use Rattle.mds_inserts.specs.Parts.{Part}
-use Rattle.mds_inserts.specs.Writing.{KeepsOthers, Puts}
+use Rattle.mds_tables.specs.Parts.{Part}
+use Rattle.mds_tables.specs.Writing.{KeepsOthers, Puts}
 
 pub puts_since : {A : Type 0} (under : Schema) (part : Part A) (a b c : State) → b.now ≡ a.now → b.committed ≡ a.committed → (items : List A)
     → Puts under part b c items → Puts under part a c items

@@ -5,9 +5,9 @@ use Rattle.sqlite.specs.State.{HasCleanDisk, KeepsCommit, State, Survives}
 use Rattle.sqlite.proofs.StateLemmas.{survives_then}
 use Rattle.sqlite_schema.specs.declared.schema.Schema.{Schema}
 use Rattle.sqlite_trees.specs.Tree.{Trees}
-use Rattle.mds_pack_store.specs.Daily.{IsDailyStore}
-use Rattle.mds_pack_store.specs.Formed.{IsFormedStore}
-use Rattle.mds_pack_store.specs.Packed.{IsPackedStore}
+use Rattle.mds_store.specs.Daily.{IsDailyStore}
+use Rattle.mds_store.specs.CurrentStore.{IsCurrentStore}
+use Rattle.mds_store.specs.Packed.{IsPackedStore}
 use Rattle.mds_migrate.specs.declared.outcome.Migrated.{Migrated}
 use Rattle.mds_migrate.specs.declared.outcome.Migrated.TheVariants.{AlreadyCurrent, Done}
 use Rattle.mds_migrate.specs.declared.outcome.MigrateFault.{MigrateFault}
@@ -78,7 +78,7 @@ stands a b c (inr (inl p)) settled refused =
       bare = (p.taken.unversioned, p.taken.undated);
     }))
 stands a b c (inr (inr p)) settled refused =
-    refused.4 (subst IsFormedStore (sym (settled refl p.is_open)) (record {
+    refused.4 (subst IsCurrentStore (sym (settled refl p.is_open)) (record {
       store = record { schema = p.schema; version = p.taken.version };
       bare = (p.taken.unversioned, p.taken.undated);
     }))
@@ -163,17 +163,17 @@ leaves_three a b c d did next one two three =
 
 -- ---- where the store is current
 
-taken_formed : (a b : State) → IsTaken forming a b → IsFormedStore b.committed
+taken_formed : (a b : State) → IsTaken forming a b → IsCurrentStore b.committed
 taken_formed a b p = record {
   store = record { schema = p.schema; version = p.taken.version };
   bare = (p.taken.unversioned, p.taken.undated);
 }
 
 -- one that was current still is
-pub still_current : (a b : State) → Answered a b AlreadyCurrent → IsFormedStore b.committed
-still_current a b is = subst IsFormedStore (sym (is.2.committed is.1.is_open)) is.0
+pub still_current : (a b : State) → Answered a b AlreadyCurrent → IsCurrentStore b.committed
+still_current a b is = subst IsCurrentStore (sym (is.2.committed is.1.is_open)) is.0
 
-current_third : (a b c d : State) → AreTwo a b c → (it : Migrated) → Answered c d it → IsFormedStore d.committed
+current_third : (a b c d : State) → AreTwo a b c → (it : Migrated) → Answered c d it → IsCurrentStore d.committed
 current_third a b c d two AlreadyCurrent is = still_current c d is
 current_third a b c d (inl both) Done (inl r) = absurd (let e = follows dating packing b c both.1 r.was in omega (arith, e))
 current_third a b c d (inl both) Done (inr (inl r)) = absurd (let e = follows dating dating b c both.1 r.was in omega (arith, e))
@@ -183,7 +183,7 @@ current_third a b c d (inr both) Done (inr (inl r)) = absurd (let e = follows fo
 current_third a b c d (inr both) Done (inr (inr r)) = absurd (let e = follows forming forming b c both.1 r.was in omega (arith, e))
 
 -- behind two steps it is, whatever the third answer
-pub current_all : (a b c d : State) → IsMigrated a b → IsMigrated b c → (it : Migrated) → Answered c d it → IsFormedStore d.committed
+pub current_all : (a b c d : State) → IsMigrated a b → IsMigrated b c → (it : Migrated) → Answered c d it → IsCurrentStore d.committed
 current_all a b c d p q it answered = current_third a b c d (are_two a b c p q) it answered
 
 -- it was one step away, if a step was done and then it is current

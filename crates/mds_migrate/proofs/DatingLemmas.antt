@@ -27,16 +27,16 @@ use Rattle.mds_tables.specs.Cells.{stream_cells}
 use Rattle.mds_tables.specs.RowFacts.{head_fact, natural_at, stream_in}
 use Rattle.mds_tables.specs.Stores.{Selects}
 use Rattle.mds_tables.specs.Tables.{detail_tree, head_columns, head_tree}
-use Rattle.mds_inserts.specs.Frames.{Frames, IsAt}
-use Rattle.mds_inserts.specs.Parts.{detail_part}
-use Rattle.mds_inserts.specs.Writing.{Puts}
-use Rattle.mds_inserts.proofs.FrameLemmas.{frames_none}
-use Rattle.mds_inserts.proofs.PutLemmas.{none_there, puts_then}
+use Rattle.mds_tables.specs.Frames.{Frames, IsAt}
+use Rattle.mds_tables.specs.Parts.{detail_part}
+use Rattle.mds_tables.specs.Writing.{Puts}
+use Rattle.mds_tables.proofs.FrameLemmas.{frames_none}
+use Rattle.mds_tables.proofs.PutLemmas.{none_there, puts_then}
 use Rattle.mds_selects.proofs.Listed.{on_stream, stream_on}
 use Rattle.mds_selects.proofs.MemberLemmas.{place_of}
 use Rattle.mds_selects.proofs.TypedRows.{HasKeyCells}
 use Rattle.mds_pack_rows.specs.DailyTables.{daydetails, schema_3}
-use Rattle.mds_day_details.specs.Shown.{AreLatestFirst, IsDetailRow, shown_details}
+use Rattle.mds_commit.specs.Shown.{AreLatestFirst, IsDetailRow, shown_details}
 use Rattle.mds_migrate.specs.Dating.{AreGreatestOf, AreOfHeads, Dates, DatesDays, IsKnown, IsKnownOf, IsLatest, IsOf, IsOfHead, IsOfKnownDay, Knows, SaysDetails, SaysFirst, ShowsDetailsOf, all_on, known_on, shown_columns}
 use Rattle.mds_migrate.specs.OldDetails.{IsGreatestOf, StreamDetail, pair_cmp, stream_detail}
 use Rattle.mds_migrate.specs.declared.dating.Latest.{Latest}

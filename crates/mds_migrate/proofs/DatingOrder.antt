@@ -27,8 +27,8 @@ use Rattle.mds_selects.proofs.TypedRows.{HasKeyCells}
 use Rattle.mds_pack_rows.specs.PackTables.{packs_then}
 use Rattle.mds_pack_rows.specs.Putting.{FindsThere}
 use Rattle.mds_pack_rows.proofs.AskLemmas.{finds_picked}
-use Rattle.mds_day_details.specs.Shown.{AreLatestFirst, IsDetailRow}
-use Rattle.mds_day_details.proofs.DetailOrder.{IsKeyed, latest, moment_order, next_order, shown_cmp, two}
+use Rattle.mds_commit.specs.Shown.{AreLatestFirst, IsDetailRow}
+use Rattle.mds_commit.proofs.DetailOrder.{IsKeyed, latest, moment_order, next_order, shown_cmp, two}
 use Rattle.mds_migrate.specs.Dating.{ShowsDetailsOf, shown_columns}
 use Rattle.mds_migrate.proofs.DatingTexts.{details_fall, details_query, select_details, select_details_is, select_details_plain}
 

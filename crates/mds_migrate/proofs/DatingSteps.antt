@@ -15,9 +15,9 @@ use Rattle.mds_world.proofs.Lists.{in_map, map_in}
 use Rattle.mds_world.proofs.Members.{in_list, in_union, list_in, union_right}
 use Rattle.mds_tables.specs.RowFacts.{detail_fact, event_fact, head_fact, holiday_fact, job_fact, natural_at, period_fact, stream_in, text_at, unit_named}
 use Rattle.mds_tables.specs.Tables.{daydetail_tree, detail_tree, head_table, head_tree, schema_tree, version_table}
-use Rattle.mds_inserts.specs.Parts.{detail_part}
-use Rattle.mds_inserts.specs.Writing.{IsMore, Keeps, KeepsOthers}
-use Rattle.mds_inserts.proofs.RowLemmas.{detail_bare, more, of, says_details}
+use Rattle.mds_tables.specs.Parts.{detail_part}
+use Rattle.mds_tables.specs.Writing.{IsMore, Keeps, KeepsOthers}
+use Rattle.mds_tables.proofs.RowLemmas.{detail_bare, more, of, says_details}
 use Rattle.mds_selects.proofs.Named.{Names, of_event, of_head_row, of_holiday, of_job, of_period, of_version}
 use Rattle.mds_pack_rows.specs.DailyLayout.{daily_layout, versions_packed, world_3}
 use Rattle.mds_pack_rows.specs.DailyTables.{daydetail_table, schema_3, tables_3}
@@ -26,7 +26,7 @@ use Rattle.mds_pack_rows.specs.Making.{MakesTable}
 use Rattle.mds_pack_rows.specs.PackTables.{pack_table, pack_tree, tables_2}
 use Rattle.mds_pack_rows.specs.PacksLayout.{packs_layout}
 use Rattle.mds_pack_rows.proofs.PutLemmas.{others_of}
-use Rattle.mds_day_details.proofs.DetailCells.{named}
+use Rattle.mds_commit.proofs.DetailCells.{named}
 use Rattle.mds_migrate.specs.Dating.{Dates, IsOfKnownDay}
 use Rattle.mds_migrate.specs.Migrated.{HasDated, IsFor, dating, steady_tables}
 use Rattle.mds_migrate.specs.Migrating.{Clears, Raises}

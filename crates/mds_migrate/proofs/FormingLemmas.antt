@@ -24,9 +24,9 @@ use Rattle.mds_tables.specs.Cells.{day_cells}
 use Rattle.mds_tables.specs.RowFacts.{head_fact, heads_in, natural_at, stream_in, text_at}
 use Rattle.mds_tables.specs.Stores.{Selects}
 use Rattle.mds_tables.specs.Tables.{head_columns, head_tree, schema_with}
-use Rattle.mds_inserts.specs.Frames.{IsAt}
-use Rattle.mds_inserts.specs.Writing.{Puts}
-use Rattle.mds_inserts.proofs.PutLemmas.{none_there, puts_then}
+use Rattle.mds_tables.specs.Frames.{IsAt}
+use Rattle.mds_tables.specs.Writing.{Puts}
+use Rattle.mds_tables.proofs.PutLemmas.{none_there, puts_then}
 use Rattle.mds_selects.proofs.Listed.{day_on, on_day}
 use Rattle.mds_selects.proofs.MemberLemmas.{place_of}
 use Rattle.mds_pack_rows.specs.DayRows.{shown_facts}
@@ -36,7 +36,7 @@ use Rattle.mds_pack_rows.specs.PackFacts.{body_facts, facts_from, minutes_of, pa
 use Rattle.mds_pack_rows.specs.PackTables.{Behind, pack_tree, packs_then, update_columns}
 use Rattle.mds_pack_rows.proofs.AskLemmas.{pack_row}
 use Rattle.mds_pack_rows.proofs.PutLemmas.{says_day}
-use Rattle.mds_form_rows.specs.FormPutting.{form_part}
+use Rattle.mds_commit.specs.FormPutting.{form_part}
 use Rattle.mds_migrate.specs.Forming.{AreFormsOf, Forms, FormsDays, IsBefore, IsFormOfDay, PutsForms, SaysForm, form_of}
 use Rattle.mds_migrate.specs.OldHeads.{updateless}
 use Rattle.mds_migrate.proofs.BehindQuery.{puts_since}

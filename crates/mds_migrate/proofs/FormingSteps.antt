@@ -21,7 +21,7 @@ use Rattle.mds_world.proofs.Lists.{in_map, map_in}
 use Rattle.mds_tables.specs.Cells.{form_cells}
 use Rattle.mds_tables.specs.RowFacts.{detail_fact, event_fact, head_fact, heads_in, holiday_fact, job_fact, natural, period_fact, text_at}
 use Rattle.mds_tables.specs.Tables.{detail_table, form_tree, head_tree, schema_tree, version_table}
-use Rattle.mds_inserts.specs.Writing.{Keeps, KeepsOthers}
+use Rattle.mds_tables.specs.Writing.{Keeps, KeepsOthers}
 use Rattle.mds_selects.proofs.MemberLemmas.{moved}
 use Rattle.mds_selects.proofs.Named.{Names, of_detail, of_event, of_head, of_holiday, of_job, of_period, of_version}
 use Rattle.mds_pack_rows.specs.DailyLayout.{daily_layout, daily_own, versions_packed, world_3}
@@ -32,7 +32,7 @@ use Rattle.mds_pack_rows.specs.PackFacts.{pack_facts}
 use Rattle.mds_pack_rows.specs.Making.{MakesTable}
 use Rattle.mds_pack_rows.specs.PackTables.{pack_table}
 use Rattle.mds_pack_rows.proofs.PutLemmas.{others_of}
-use Rattle.mds_form_rows.proofs.UnitLemmas.{text_found}
+use Rattle.mds_commit.proofs.UnitLemmas.{text_found}
 use Rattle.mds_migrate.specs.Forming.{Forms, IsPackedUnder, SayOneUnit}
 use Rattle.mds_migrate.specs.Migrated.{HasFormed, IsFor, forming, steady_tables}
 use Rattle.mds_migrate.specs.Migrating.{ClearsLengths, Raises, without_length}

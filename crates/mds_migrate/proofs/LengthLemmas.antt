@@ -37,7 +37,7 @@ use Rattle.mds_world.specs.Lists.{Member}
 use Rattle.mds_world.proofs.Lists.{map_in}
 use Rattle.mds_tables.specs.Tables.{day_key, head_table, head_tree, schema_with}
 use Rattle.mds_tables.proofs.InsertLemmas.{cast_int, cast_null, simple}
-use Rattle.mds_inserts.proofs.RowLemmas.{gains_one}
+use Rattle.mds_tables.proofs.RowLemmas.{gains_one}
 use Rattle.mds_selects.proofs.KeyLemmas.{cells_equal, truth_of}
 use Rattle.mds_selects.proofs.MemberLemmas.{all_has, filter_in, moved}
 use Rattle.mds_selects.proofs.QueryLemmas.{head_typed}

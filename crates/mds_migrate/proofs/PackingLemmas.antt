@@ -29,9 +29,9 @@ use Rattle.mds_tables.specs.Cells.{day_cells}
 use Rattle.mds_tables.specs.RowFacts.{head_fact, lengthless, version_fact, versions_in}
 use Rattle.mds_tables.specs.Stores.{Begins, Selects}
 use Rattle.mds_tables.specs.Tables.{head_columns, head_tree, schema_with, version_columns, version_tree}
-use Rattle.mds_inserts.specs.Frames.{IsAt}
-use Rattle.mds_inserts.specs.Writing.{KeepsOthers}
-use Rattle.mds_inserts.proofs.RowLemmas.{of}
+use Rattle.mds_tables.specs.Frames.{IsAt}
+use Rattle.mds_tables.specs.Writing.{KeepsOthers}
+use Rattle.mds_tables.proofs.RowLemmas.{of}
 use Rattle.mds_selects.specs.Shown.{AreVersionsIn}
 use Rattle.mds_selects.proofs.Listed.{Tells, listed, tells, told, version_on}
 use Rattle.mds_selects.proofs.Named.{Names}

@@ -13,10 +13,10 @@ use Rattle.mds_tables.specs.Cells.{stream_cells}
 use Rattle.mds_tables.specs.RowFacts.{natural_at, stream_in}
 use Rattle.mds_tables.specs.Stores.{Selects}
 use Rattle.mds_tables.specs.Tables.{detail_tree, head_tree}
-use Rattle.mds_inserts.specs.Parts.{detail_part}
-use Rattle.mds_inserts.specs.Writing.{Puts}
+use Rattle.mds_tables.specs.Parts.{detail_part}
+use Rattle.mds_tables.specs.Writing.{Puts}
 use Rattle.mds_pack_rows.specs.DailyTables.{schema_3}
-use Rattle.mds_day_details.specs.Shown.{AreLatestFirst, IsDetailRow, shown_details}
+use Rattle.mds_commit.specs.Shown.{AreLatestFirst, IsDetailRow, shown_details}
 use Rattle.mds_migrate.specs.OldDetails.{IsGreatestOf}
 use Rattle.mds_migrate.specs.declared.dating.Latest.{Latest}
 

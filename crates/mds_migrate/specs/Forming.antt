@@ -14,12 +14,12 @@ use Rattle.mds_world.specs.World.{key_under}
 use Rattle.mds_world.specs.declared.facts.Head.{Head}
 use Rattle.mds_tables.specs.RowFacts.{head_fact, heads_in, natural_at, text_at}
 use Rattle.mds_tables.specs.Tables.{head_tree}
-use Rattle.mds_inserts.specs.Writing.{Puts}
+use Rattle.mds_tables.specs.Writing.{Puts}
 use Rattle.mds_pack_rows.specs.DayRows.{shown_facts}
 use Rattle.mds_pack_rows.specs.FormLayout.{day_in}
 use Rattle.mds_pack_rows.specs.FormTables.{schema_4}
 use Rattle.mds_pack_rows.specs.PackFacts.{pack_versions}
-use Rattle.mds_form_rows.specs.FormPutting.{form_part}
+use Rattle.mds_commit.specs.FormPutting.{form_part}
 use Rattle.mds_migrate.specs.OldHeads.{updateless}
 
 -- the head of a day under the update that a row of mds_pack shows

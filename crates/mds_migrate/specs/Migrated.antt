@@ -19,8 +19,8 @@ use Rattle.mds_world.specs.declared.facts.Key.{Key}
 use Rattle.mds_tables.specs.Layouts.{rows_layout, world_with}
 use Rattle.mds_tables.specs.Stores.{AreOpen, IsStore, versions_said}
 use Rattle.mds_tables.specs.Tables.{detail_table, detail_tree, event_table, head_table, head_tree, holiday_table, job_table, period_table, schema_1, version_tree}
-use Rattle.mds_inserts.specs.Frames.{Moves}
-use Rattle.mds_inserts.specs.Writing.{Keeps}
+use Rattle.mds_tables.specs.Frames.{Moves}
+use Rattle.mds_tables.specs.Writing.{Keeps}
 use Rattle.mds_pack_rows.specs.DailyLayout.{world_3}
 use Rattle.mds_pack_rows.specs.DailyTables.{daydetail_table, schema_3}
 use Rattle.mds_pack_rows.specs.FormLayout.{world_4}
@@ -28,9 +28,9 @@ use Rattle.mds_pack_rows.specs.FormTables.{schema_4}
 use Rattle.mds_pack_rows.specs.PackFacts.{pack_facts}
 use Rattle.mds_pack_rows.specs.PackTables.{pack_table, pack_tree, schema_2}
 use Rattle.mds_pack_rows.specs.PacksLayout.{world_2}
-use Rattle.mds_pack_store.specs.Daily.{IsDailyStore}
-use Rattle.mds_pack_store.specs.Formed.{IsFormedStore}
-use Rattle.mds_pack_store.specs.Packed.{IsPackedStore}
+use Rattle.mds_store.specs.Daily.{IsDailyStore}
+use Rattle.mds_store.specs.CurrentStore.{IsCurrentStore}
+use Rattle.mds_store.specs.Packed.{IsPackedStore}
 use Rattle.mds_migrate.specs.Migrating.{without_length}
 use Rattle.mds_migrate.specs.OldDetails.{Becomes}
 use Rattle.mds_migrate.specs.OldHeads.{IsFormedOf}
@@ -177,10 +177,10 @@ LeavesSteps old left =
 -- what a migration answers
 abbrev pub Answered : State → State → Migrated → Type 0
 Answered old new Done = IsMigrated old new
-Answered old new AlreadyCurrent = IsFormedStore old.committed × AreOpen old new × KeepsCommit old new
+Answered old new AlreadyCurrent = IsCurrentStore old.committed × AreOpen old new × KeepsCommit old new
 
 -- Nothing was changed. U3 only if the database is a store of none of the schemas.
 abbrev pub IsRefused : State → State → MigrateFault → Type 0
 IsRefused old new OtherSchema =
-    KeepsCommit old new × (IsStore old.now → ⊥) × (IsPackedStore old.now → ⊥) × (IsDailyStore old.now → ⊥) × (IsFormedStore old.now → ⊥)
+    KeepsCommit old new × (IsStore old.now → ⊥) × (IsPackedStore old.now → ⊥) × (IsDailyStore old.now → ⊥) × (IsCurrentStore old.now → ⊥)
 IsRefused old new Unavailable = KeepsCommit old new

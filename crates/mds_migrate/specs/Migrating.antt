@@ -13,7 +13,7 @@ use Rattle.mds_world.specs.Lists.{Member}
 use Rattle.mds_tables.specs.RowFacts.{head_fact, versions_in}
 use Rattle.mds_tables.specs.Stores.{versions_said}
 use Rattle.mds_tables.specs.Tables.{head_tree, schema_tree}
-use Rattle.mds_inserts.specs.Writing.{KeepsOthers}
+use Rattle.mds_tables.specs.Writing.{KeepsOthers}
 use Rattle.mds_pack_rows.specs.PackFacts.{pack_facts, pack_versions}
 use Rattle.mds_pack_rows.specs.PackTables.{pack_tree}
 use Rattle.mds_pack_rows.specs.Putting.{ChangesPacks}

@@ -7,7 +7,7 @@ ghost use Rattle.mds_tables.specs.Tables.{schema_1};
 ghost use Rattle.mds_pack_rows.specs.DailyTables.{schema_3};
 ghost use Rattle.mds_pack_rows.specs.FormTables.{schema_4};
 ghost use Rattle.mds_pack_rows.specs.PackTables.{schema_2};
-ghost use Rattle.mds_pack_store.specs.Formed.{IsFormedStore};
+ghost use Rattle.mds_store.specs.CurrentStore.{IsCurrentStore};
 ghost use Rattle.mds_migrate.specs.Migrated.{Answered, IsRefused, LeavesMigrated, LeavesSteps, TakesOne, TakesSteps, TakesTwo};
 
 use crate::dating::Dating;
@@ -17,8 +17,8 @@ use crate::outcome::{MigrateFault, Migrated};
 use crate::packing::Packing;
 use crate::step::take_step;
 use mds_pack_rows::has_schema;
-use mds_pack_store::{are_daily, are_formed, are_packed};
 use mds_selects::is_version;
+use mds_store::{are_current, are_daily, are_packed};
 use sqlite::{Alter, Connection};
 use std::alloc::Global;
 
@@ -30,9 +30,9 @@ pub fn migrate_all<S: Alter, O: StepObserver>(
     conn: &mut Connection<S>,
     observer: &mut O,
 ) -> Result<Migrated, MigrateFault>
-    ensures current { IfOk result (λ it. HasCleanDisk (state S.Store conn.new) → IsFormedStore (state S.Store conn.new).committed) }
+    ensures current { IfOk result (λ it. HasCleanDisk (state S.Store conn.new) → IsCurrentStore (state S.Store conn.new).committed) }
     ensures same { IfOk result (λ it. it ≡ Migrated.AlreadyCurrent → HasCleanDisk (state S.Store conn.new)
-        → IsFormedStore (state S.Store conn.old).committed × KeepsCommit (state S.Store conn.old) (state S.Store conn.new)) }
+        → IsCurrentStore (state S.Store conn.old).committed × KeepsCommit (state S.Store conn.old) (state S.Store conn.new)) }
     ensures taken { IfOk result (λ it. it ≡ Migrated.Done → HasCleanDisk (state S.Store conn.new)
         → TakesSteps (state S.Store conn.old).committed (state S.Store conn.new).committed.trees) }
     ensures stopped { IfErr result (λ e. HasCleanDisk (state S.Store conn.new) → IsRefused (state S.Store conn.old) (state S.Store conn.new) e
@@ -124,7 +124,7 @@ fn if_current<S: Alter>(conn: &mut Connection<S>) -> Result<Migrated, MigrateFau
     ensures survives { Survives (state S.Store conn.old) (state S.Store conn.new) (λ _. ⊥) }
 {
     // decides: U3: a database to migrate is of none of the schemas
-    let is_current = are_formed(conn)?;
+    let is_current = are_current(conn)?;
     if !is_current {
         return Err(MigrateFault::OtherSchema);
     }

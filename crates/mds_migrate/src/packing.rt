@@ -6,7 +6,7 @@ ghost use Rattle.sqlite.specs.State.{IsUnchanged};
 ghost use Rattle.mds_tables.specs.Cells.{day_cells as day_columns};
 ghost use Rattle.mds_tables.specs.Stores.{Selects};
 ghost use Rattle.mds_tables.specs.Tables.{More, head_columns, head_tree, schema_with, version_columns, version_tree};
-ghost use Rattle.mds_inserts.specs.Frames.{Frames};
+ghost use Rattle.mds_tables.specs.Frames.{Frames};
 ghost use Rattle.mds_migrate.specs.Migrated.{packing};
 ghost use Rattle.mds_migrate.specs.Migrating.{Packs};
 ghost use Rattle.mds_migrate.specs.Packing.{PacksDays};

@@ -6,7 +6,7 @@ ghost use Rattle.sqlite.specs.State.{HasCleanDisk, KeepsCommit, Survives};
 ghost use Rattle.sqlite.specs.Values.{bound};
 ghost use Rattle.sqlite.specs.declared.types.Value.TheVariants.{Int};
 ghost use Rattle.mds_tables.specs.Tables.{detail_tree, schema_with, version_tree};
-ghost use Rattle.mds_inserts.specs.Frames.{Frames};
+ghost use Rattle.mds_tables.specs.Frames.{Frames};
 ghost use Rattle.mds_migrate.specs.Migrating.{Clears, ClearsLengths, Raises, RaisesRow};
 ghost use Rattle.mds_pack_rows.specs.DailyTables.{schema_3};
 ghost use Rattle.mds_pack_rows.specs.FormTables.{schema_4};

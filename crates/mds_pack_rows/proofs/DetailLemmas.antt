@@ -13,11 +13,11 @@ use Rattle.mds_tables.proofs.CallLemmas.{keeps_same, survives_more, survives_sam
 use Rattle.mds_tables.specs.Cells.{detail_cells}
 use Rattle.mds_tables.specs.Stores.{Gains}
 use Rattle.mds_tables.specs.Tables.{daydetail_tree, schema_with}
-use Rattle.mds_inserts.specs.Parts.{detail_part}
-use Rattle.mds_inserts.specs.Tabling.{part_in}
-use Rattle.mds_inserts.specs.Writing.{Puts, PutsThere}
-use Rattle.mds_inserts.proofs.PutLemmas.{none_there, there_then}
-use Rattle.mds_inserts.proofs.RowLemmas.{says_details}
+use Rattle.mds_tables.specs.Parts.{detail_part}
+use Rattle.mds_tables.specs.Tabling.{part_in}
+use Rattle.mds_tables.specs.Writing.{Puts, PutsThere}
+use Rattle.mds_tables.proofs.PutLemmas.{none_there, there_then}
+use Rattle.mds_tables.proofs.RowLemmas.{says_details}
 use Rattle.mds_pack_rows.specs.DailyPutting.{PutsDetails}
 use Rattle.mds_pack_rows.specs.DailyTables.{daily_then}
 use Rattle.mds_pack_rows.specs.DetailTabling.{detail_tabling}

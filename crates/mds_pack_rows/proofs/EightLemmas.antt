@@ -29,16 +29,16 @@ use Rattle.mds_keeper.specs.declared.additions.DayVersions.{DayVersions}
 use Rattle.mds_keeper.specs.declared.day_book.Version.{Version}
 use Rattle.mds_tables.specs.Stores.{Gains}
 use Rattle.mds_tables.specs.Tables.{More, schema_with}
-use Rattle.mds_inserts.specs.Writing.{KeepsOthers}
-use Rattle.mds_inserts.proofs.Eights.{eight_got}
-use Rattle.mds_inserts.proofs.RowLemmas.{of}
+use Rattle.mds_tables.specs.Writing.{KeepsOthers}
+use Rattle.mds_tables.proofs.Eights.{eight_got}
+use Rattle.mds_tables.proofs.RowLemmas.{of}
 use Rattle.mds_selects.proofs.MemberLemmas.{all_has}
 use Rattle.mds_pack_rows.specs.Eights.{SayDays, SaySome, SaysDay, columns_of, said_by}
 use Rattle.mds_pack_rows.specs.PackFacts.{body_facts, pack_facts, readings_in}
 use Rattle.mds_pack_rows.specs.PackTables.{pack_table, pack_tree, packs_then}
 use Rattle.mds_pack_rows.specs.Putting.{ChangesPacks, NamesMore, PutsFacts, SayRows}
 use Rattle.mds_pack_rows.specs.declared.statements.PackRow.{PackRow}
-use Rattle.mds_inserts.proofs.ManyLemmas.{AddsAll, AreFit, adds_all, sources}
+use Rattle.mds_tables.proofs.ManyLemmas.{AddsAll, AreFit, adds_all, sources}
 use Rattle.mds_pack_rows.proofs.PackTexts.{eight_terms, insert_packs, insert_packs_is, insert_packs_plain, pack_place}
 use Rattle.mds_pack_rows.proofs.NameLemmas.{came_all, named_none, plain}
 use Rattle.mds_pack_rows.proofs.PutLemmas.{fits, is_database, others_in, puts_as, puts_then, ran_on, rows_say, same_others, says_day}

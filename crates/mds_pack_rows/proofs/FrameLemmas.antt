@@ -9,11 +9,11 @@ use Rattle.mds_world.specs.Facts.{Fact}
 use Rattle.mds_world.specs.declared.facts.Detail.{Detail}
 use Rattle.mds_tables.specs.Making.{MakesThere}
 use Rattle.mds_tables.specs.Tables.{More, schema_with}
-use Rattle.mds_inserts.specs.Frames.{Frames, IsAt, Moves}
-use Rattle.mds_inserts.specs.Parts.{detail_part}
-use Rattle.mds_inserts.specs.Writing.{Puts, PutsThere}
-use Rattle.mds_inserts.proofs.FrameLemmas.{frames_err, frames_put}
-use Rattle.mds_inserts.proofs.PutLemmas.{if_ok}
+use Rattle.mds_tables.specs.Frames.{Frames, IsAt, Moves}
+use Rattle.mds_tables.specs.Parts.{detail_part}
+use Rattle.mds_tables.specs.Writing.{Puts, PutsThere}
+use Rattle.mds_tables.proofs.FrameLemmas.{frames_err, frames_put}
+use Rattle.mds_tables.proofs.PutLemmas.{if_ok}
 use Rattle.mds_pack_rows.specs.DailyPutting.{PutsDetails}
 use Rattle.mds_pack_rows.specs.DailyTables.{daily_then}
 use Rattle.mds_pack_rows.specs.PackTables.{Behind, packs_then}

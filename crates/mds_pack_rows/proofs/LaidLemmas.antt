@@ -7,7 +7,7 @@ use Rattle.mds_world.specs.Facts.{Fact}
 use Rattle.mds_world.specs.Lists.{Member}
 use Rattle.mds_world.specs.World.{union}
 use Rattle.mds_world.proofs.Members.{in_list, in_union, list_in, same_by, union_left, union_right}
-use Rattle.mds_inserts.proofs.RowLemmas.{IsMore, of}
+use Rattle.mds_tables.proofs.RowLemmas.{IsMore, of}
 use Rattle.mds_packs.proofs.Whole.{any_held}
 use Rattle.mds_pack_rows.specs.Laying.{held_of, laid}
 use Rattle.mds_pack_rows.specs.PackFacts.{facts_from, minutes_of, readings_facts}

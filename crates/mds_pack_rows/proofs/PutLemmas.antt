@@ -40,8 +40,8 @@ use Rattle.mds_tables.specs.RowFacts.{natural, natural_at, text_at}
 use Rattle.mds_tables.specs.Stores.{Begins, Gains, Selects}
 use Rattle.mds_tables.specs.Tables.{More, schema_with}
 use Rattle.mds_tables.proofs.InsertLemmas.{Adds as OneMore, adds, cast_int, simple}
-use Rattle.mds_inserts.specs.Writing.{KeepsOthers}
-use Rattle.mds_inserts.proofs.RowLemmas.{IsMore, gains_one, of}
+use Rattle.mds_tables.specs.Writing.{KeepsOthers}
+use Rattle.mds_tables.proofs.RowLemmas.{IsMore, gains_one, of}
 use Rattle.mds_selects.proofs.SelectLemmas.{picks}
 use Rattle.mds_selects.proofs.SelectTexts.{equals}
 use Rattle.mds_selects.proofs.TypedRows.{begins_at}

@@ -9,7 +9,7 @@ use Rattle.mds_world.specs.Facts.{Fact, key_at}
 use Rattle.mds_world.specs.Facts.Fact.{VersionIs}
 use Rattle.mds_world.specs.World.{union}
 use Rattle.mds_world.proofs.Sets.{list_append, union_assoc, union_comm}
-use Rattle.mds_inserts.proofs.RowLemmas.{of}
+use Rattle.mds_tables.proofs.RowLemmas.{of}
 use Rattle.mds_keeper.specs.Books.{row_fact}
 use Rattle.mds_keeper.specs.declared.day_book.Version.{Version}
 use Rattle.mds_pack_rows.specs.PackFacts.{facts_from, minutes_of}

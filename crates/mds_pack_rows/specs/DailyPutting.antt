@@ -3,8 +3,8 @@ use Rattle.std.specs.Prelude.{List}
 use Rattle.sqlite.specs.State.{State}
 use Rattle.mds_world.specs.declared.facts.Detail.{Detail}
 use Rattle.mds_tables.specs.Tables.{More, schema_with}
-use Rattle.mds_inserts.specs.Parts.{detail_part}
-use Rattle.mds_inserts.specs.Writing.{PutsThere}
+use Rattle.mds_tables.specs.Parts.{detail_part}
+use Rattle.mds_tables.specs.Writing.{PutsThere}
 use Rattle.mds_pack_rows.specs.DailyTables.{daily_then}
 
 -- these details have their rows in mds_daydetail, whatever tables follow it

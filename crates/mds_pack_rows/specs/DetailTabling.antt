@@ -7,10 +7,10 @@ use Rattle.mds_keeper.specs.Content.{detail_on}
 use Rattle.mds_keeper.specs.declared.additions.DetailDays.{DetailDays}
 use Rattle.mds_tables.specs.Tables.{More}
 use Rattle.mds_tables.proofs.InsertLemmas.{cast_int}
-use Rattle.mds_inserts.specs.Parts.{detail_part}
-use Rattle.mds_inserts.specs.Tabling.{IsTabled, Tabling}
-use Rattle.mds_inserts.proofs.PutLemmas.{cast_optional}
-use Rattle.mds_inserts.proofs.RowLemmas.{says_details}
+use Rattle.mds_tables.specs.Parts.{detail_part}
+use Rattle.mds_tables.specs.Tabling.{IsTabled, Tabling}
+use Rattle.mds_tables.proofs.PutLemmas.{cast_optional}
+use Rattle.mds_tables.proofs.RowLemmas.{says_details}
 use Rattle.mds_pack_rows.specs.DailyTables.{daily_then, daydetail_table}
 
 abbrev pub detail_tabling : DetailDays → Tabling ℕ

@@ -3,7 +3,7 @@ use Rattle.std.specs.Prelude.{◌≡◌, ℕ, ◌+◌, List, [], ◌∷◌, slic
 use Rattle.sqlite.specs.State.{State}
 use Rattle.sqlite_catalog.specs.Listing.{IsSound}
 use Rattle.mds_tables.specs.Texts.{create_detail, create_event, create_head, create_holiday, create_job, create_period, create_schema, create_version}
-use Rattle.mds_inserts.specs.Writing.{Keeps}
+use Rattle.mds_tables.specs.Writing.{Keeps}
 use Rattle.mds_pack_rows.specs.DailyTables.{create_daydetail}
 use Rattle.mds_pack_rows.specs.FormTables.{create_form}
 use Rattle.mds_pack_rows.specs.PackTables.{create_pack}

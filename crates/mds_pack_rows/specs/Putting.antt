@@ -18,7 +18,7 @@ use Rattle.mds_keeper.specs.declared.day_book.Version.{Version}
 use Rattle.mds_tables.specs.RowFacts.{text_at}
 use Rattle.mds_tables.specs.Stores.{Begins}
 use Rattle.mds_tables.specs.Tables.{More, schema_with}
-use Rattle.mds_inserts.specs.Writing.{IsMore, KeepsOthers}
+use Rattle.mds_tables.specs.Writing.{IsMore, KeepsOthers}
 use Rattle.mds_pack_rows.specs.PackCells.{key_cells, pack_cells}
 use Rattle.mds_pack_rows.specs.PackFacts.{pack_facts, pack_versions, readings_facts, readings_in}
 use Rattle.mds_pack_rows.specs.PackTables.{Behind, body_columns, pack_tree, packs_then}

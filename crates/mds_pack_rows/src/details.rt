@@ -7,9 +7,8 @@ ghost use Rattle.mds_keeper.specs.Content.{details_of};
 ghost use Rattle.mds_pack_rows.specs.DailyPutting.{PutsDetails};
 ghost use Rattle.mds_pack_rows.specs.DetailTabling.{detail_is, detail_tabling};
 
-use mds_inserts::{Tabled, put_all};
 use mds_keeper::{DetailDays, Unavailable};
-use mds_tables::{detail_cells, or_unavailable};
+use mds_tables::{Tabled, detail_cells, or_unavailable, put_all};
 use mds_terms::Day;
 use sqlite::types::ValueRef;
 use sqlite::{Alter, Transaction};

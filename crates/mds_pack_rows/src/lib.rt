@@ -4,7 +4,7 @@
 //! It decides which versions share a row (`grouping.rt`), when a row's body is replaced (`putting.rt`), and which rows go in eight at a
 //! time (`eights.rt`). It defines the layouts of schemas 2 to 4, and makes and recognizes the tables of schemas 2 and 3. Any tables may
 //! follow those that it writes.
-//! Callers: `mds_form_rows` for commits and the books of days, `mds_migrate` for its steps, `mds_pack_store` to recognize old stores.
+//! Callers: `mds_commit` for commits and the books of days, `mds_migrate` for its steps, `mds_store` to recognize old stores.
 //! Must not change: the tables, which existing stores have. A commit and a migration put rows by the same functions, so a migrated row is
 //! the one that an import would have put.
 #![tactic(auto)]

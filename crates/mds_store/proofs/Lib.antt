@@ -1,7 +1,10 @@
 pub mod Adopting
 pub mod Ascending
+pub mod CurrentAdopting
+pub mod CurrentKeeping
 pub mod Keeping
 pub mod ListTexts
 pub mod Listed
 pub mod PeriodLemmas
+pub mod RowTexts
 pub mod RowsFound

@@ -1,5 +1,10 @@
+pub mod Daily
+pub mod CurrentStore
+pub mod CurrentProps
 pub mod KeptRows
+pub mod Packed
 pub mod Periods
 pub mod Props
 pub mod Said
+pub mod Shown
 pub mod Starting

@@ -6,8 +6,8 @@ use Rattle.mds_tables.specs.Layouts.{Layout}
 use Rattle.mds_tables.specs.Making.{KeepsNothingOf}
 use Rattle.mds_tables.specs.Stores.{IsStoreOf}
 use Rattle.mds_tables.specs.Tables.{no_schema}
-use Rattle.mds_store.specs.declared.starting.StoreFault.{StoreFault}
-use Rattle.mds_store.specs.declared.starting.StoreFault.TheVariants.{EarlierSchema, InTransaction, OtherSchema, Unavailable}
+use Rattle.mds_store.specs.declared.fault.StoreFault.{StoreFault}
+use Rattle.mds_store.specs.declared.fault.StoreFault.TheVariants.{EarlierSchema, InTransaction, OtherSchema, Unavailable}
 
 -- The database was empty, and is a store that keeps nothing.
 pub record IsCreated (layout : Layout) (old new : State) : Type 0 where

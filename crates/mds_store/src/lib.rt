@@ -1,19 +1,26 @@
-//! Queries of a keeper over SQL tables that are the same in any layout: holidays, substitution jobs, and the accumulations of a stream. Any
-//! tables may follow those that every schema has.
+//! A store of schema 4 in the tables of an SQL database: its keeper, how it is made (`create`) and recognized (`adopt`).
 //!
-//! It decides why a database is no usable store (`StoreFault`: U1, U2 or U3), and when a database is empty, so that a store can be made in
-//! it.
-//! Callers: `mds_pack_store` for its keeper, `create` and `adopt`. `mdstore` and `mds_trials` match on `StoreFault`, and `mds_full`
-//! re-exports it.
-//! Must not change: the code that each variant of `StoreFault` means, and the order of accumulations. A row that doesn't read is never
-//! passed over, but makes the answer Unavailable (U1).
+//! It decides which database is a store, and which fault any other one has: U2 for schemas 1 to 3, else U3 (`starting.rt`, `fault.rt`).
+//! It answers for holidays, substitution jobs and accumulations, whatever tables follow those that every schema has (`querying.rt`).
+//! Callers: `mdstore` makes and opens stores with it, and `mds_trials` does so in memory. `mds_store_runs` runs over `PackKeeper`,
+//! `mds_migrate` asks what schema a store says, and `mds_full` re-exports it.
+//! Must not change: the names `PackKeeper`, `create` and `adopt`, which README shows, the code that each variant of `StoreFault` means, and
+//! the order of accumulations. A refusal returns the connection and changes nothing, and an open migrates nothing. A row that doesn't read
+//! is never passed over, but makes the answer Unavailable (U1).
 #![tactic(auto)]
 
+mod fault;
+mod laws;
+mod old_rows;
+mod pack_keeper;
 mod periods;
 mod querying;
 mod rows;
 mod starting;
 
+pub use fault::{StoreFault, is_empty};
+pub use laws::a_keeper_is_its_tables;
+pub use pack_keeper::PackKeeper;
 pub use periods::{content_of_period, periods_of};
 pub use querying::{holidays_of, job_of};
-pub use starting::{StoreFault, is_empty};
+pub use starting::{adopt, are_current, are_daily, are_packed, create};

@@ -7,12 +7,12 @@ ghost use Rattle.sqlite_trees.specs.Tree.{Trees};
 ghost use Rattle.mds_world.specs.World.{IsLawful, World};
 ghost use Rattle.mds_tables.specs.Stores.{world_kept};
 ghost use Rattle.mds_pack_rows.specs.Current.{current_layout, current_world};
-ghost use Rattle.mds_pack_store.specs.Formed.{HoldsFormed};
+ghost use Rattle.mds_store.specs.CurrentStore.{HoldsCurrent};
 ghost use Rattle.mds_service.specs.Crashes.{MayLeave};
 ghost use Rattle.mds_service.specs.Machine.{Run};
 
-use mds_pack_store::PackKeeper;
 use mds_service::{Answer, Request, run};
+use mds_store::PackKeeper;
 use sqlite::Alter;
 use std::alloc::{AllocError, Global};
 
@@ -35,7 +35,7 @@ pub fn run_packs<S: Alter>(
         → MayLeave w requests.now answers.items (current_world trees))) }
 
     // The tables are those of a store, which can be opened again.
-    ensures store { HoldsFormed (state S.Store keeper.new.conn) }
+    ensures store { HoldsCurrent (state S.Store keeper.new.conn) }
 
     // Each request has its answer. Nothing is changed if there is no room for the list of answers, and an empty list needs
     // none.

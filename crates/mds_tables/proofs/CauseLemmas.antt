@@ -18,6 +18,7 @@ use Rattle.sqlite_resolve.specs.declared.error.CompileError.{CompileError}
 use Rattle.sqlite_schema.specs.declared.command.Returning.{Returning}
 use Rattle.sqlite_trees.specs.declared.error.StoreError.{StoreError}
 use Rattle.sqlite_trees.specs.declared.error.StoreError.TheVariants.{OutOfMemory, Io, Corrupt, Full, Broken, Unstorable}
+pub use Rattle.mds_tables.specs.Tabling.{IsWhole}
 use Rattle.mds_tables.specs.Causes.{HasFailed, IsBehind, StoreFails}
 
 behind : (old new : State) (TooBig : Type 0) (e : StoreError) → HasCause old new TooBig e → IsBehind old new TooBig e
@@ -61,11 +62,6 @@ pub failed_since : (a b c : State) → a.faults ≤ b.faults → IsTrue b.is_ope
     → HasFailed b c e → HasFailed a c e
 failed_since a b c up is_open limit e (inl h) = inl (fails_since a b c ⊥ ⊥ (λ x. x) up is_open e h)
 failed_since a b c up is_open limit e (inr h) = inr (rw limit at h)
-
--- a text that is one statement, with so many parameters, which doesn't read the time
-abbrev pub IsWhole : List ℕ → ℕ → Result Compiled CompileError → Type 0
-IsWhole sql count (Ok c) = (length sql ≤ c.tail) × (length c.names ≡ count) × (c.formats ≡ [])
-IsWhole sql count (Err e) = ⊥
 
 -- it is a statement under this schema
 pub a_statement : (s : State) (sql : List ℕ) (params : Row) (e : Error) → IsWhole sql (length params) (understood s.now.schema sql)

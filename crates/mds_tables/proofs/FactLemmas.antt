@@ -15,6 +15,7 @@ use Rattle.mds_world.specs.declared.facts.Key.{Key}
 use Rattle.mds_world.specs.Facts.{head_at}
 use Rattle.mds_world.specs.Facts.Fact.{DetailIs, EventIs, HeadIs, VersionIs}
 use Rattle.mds_world.proofs.Sets.{split_and}
+pub use Rattle.mds_tables.specs.HeadTabling.{unit_back}
 use Rattle.mds_tables.specs.Cells.{detail_cells, event_cells, head_cells, letter_text, optional_cell, unit_cells, version_cells}
 use Rattle.mds_tables.specs.RowFacts.{detail_fact, event_fact, head_fact, lengthless, letter_in, optional, quality_named, unit_named, version_fact}
 
@@ -32,13 +33,6 @@ pub head_back : (id : Value) (h : Head) → unit_of (unit_text h.unit) ≡ Some 
 head_back id h reads =
     let unit : unit_named (unit_text h.unit) ≡ h.unit = ap (λ o. unwrap_or o MWh) reads in
     λ i. HeadIs (head_at h.stream h.day 0 h.length (unit i))
-
--- and one of schema 4 says a day and its unit
-pub unit_back : (id : Value) (h : Head) → unit_of (unit_text h.unit) ≡ Some h.unit
-    → head_fact (id ∷ unit_cells h) ≡ HeadIs (head_at h.stream h.day 0 0 h.unit)
-unit_back id h reads =
-    let unit : unit_named (unit_text h.unit) ≡ h.unit = ap (λ o. unwrap_or o MWh) reads in
-    λ i. HeadIs (head_at h.stream h.day 0 0 (unit i))
 
 pub detail_back : (id : Value) (d : Detail) → detail_fact (id ∷ detail_cells d) ≡ DetailIs d
 detail_back id d =

@@ -23,14 +23,11 @@ use Rattle.sqlite.specs.Does.{Tally, Does}
 use Rattle.sqlite.specs.declared.run.Mode.{Mode}
 use Rattle.sqlite.proofs.Callers.{one_step}
 pub use Rattle.mds_tables.specs.Layouts.{either}
+pub use Rattle.mds_tables.specs.Tabling.{cast_int, simple}
 
 pub cast_null : cast Integer Null ≡ Null
 unfolding unary
 cast_null = either _ Null
-
-pub cast_int : (n : ℤ) → cast Integer (Int n) ≡ Int n
-unfolding unary
-cast_int n = either _ (Int n)
 
 -- a part that gave a value did not stop on the way
 pub went : {B E R : Type 0} {b : B} {Stops : E → Type 0} → ((stop : E) × Stops stop × (Ok b ≡ Err stop)) ⊎ R → R
@@ -54,10 +51,6 @@ pub record Adds (schema : Schema) (old new : Trees) (table : Table) (values : Ro
 not_taken : (b : Bool) → (not b && true) ≡ true → b ≡ false
 not_taken true h = cc
 not_taken false h = refl
-
--- a table that counts no rowids and reads no time
-abbrev pub simple : Table → Table
-simple t = record t { is_counted = false; stamps = record { places = []; terms = []; formats = [] } }
 
 module _ (limit : Option ℕ) (keys : Keys) (schema : Schema) (t : Table) (params : Row) (db : Trees) (values : Row) where
   abbrev pub task : Task

@@ -5,7 +5,7 @@
 //! It decides which details, events and printable texts are valid, and how details and events are ordered.
 //! Called by all crates above: records borrow terms (`DetailsRef`, `EventRef`, `PrintableText`), and keepers own them.
 //! Must not change: the order of details. The greatest of those under one moment are current, and the SQL of
-//! `mds_day_details` has the same order. The names that `mds::terms` makes public stay.
+//! `mds_commit` has the same order. The names that `mds::terms` makes public stay.
 #![tactic(auto)]
 
 mod details;

@@ -1,7 +1,7 @@
 -- The outcomes of a migration, of the end of a service, and of a store or a request that can't be had (profile).
 use Rattle.std.specs.Prelude.{Result, Ok, Err}
-use Rattle.mds_store.specs.declared.starting.StoreFault.{StoreFault}
-use Rattle.mds_store.specs.declared.starting.StoreFault.TheVariants as store
+use Rattle.mds_store.specs.declared.fault.StoreFault.{StoreFault}
+use Rattle.mds_store.specs.declared.fault.StoreFault.TheVariants as store
 use Rattle.mds_migrate.specs.declared.outcome.Migrated.{Migrated}
 use Rattle.mds_migrate.specs.declared.outcome.Migrated.TheVariants as migrated
 use Rattle.mds_migrate.specs.declared.outcome.MigrateFault.{MigrateFault}

@@ -1,5 +1,5 @@
 use Rattle.sqlite.specs.Held.{state}
-use Rattle.mds_inserts.proofs.FrameLemmas.{frames_refused, frames_stop, frames_then}
+use Rattle.mds_tables.proofs.FrameLemmas.{frames_refused, frames_stop, frames_then}
 use Rattle.mds_migrate.proofs.DatingLemmas.{dates_day}
 use Rattle.mds_migrate.proofs.dating.date_day.Goals as goal
 

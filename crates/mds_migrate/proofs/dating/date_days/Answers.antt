@@ -1,7 +1,7 @@
 use Rattle.std.proofs.Common.{◌≡◌, ◌≤◌, ◌∙◌, None, subst, take, take_all, arith}
 use Rattle.sqlite.specs.Held.{state}
 use Rattle.sqlite_trees.specs.View.{doubt}
-use Rattle.mds_inserts.proofs.FrameLemmas.{frames_both, frames_so, frames_stop, frames_then}
+use Rattle.mds_tables.proofs.FrameLemmas.{frames_both, frames_so, frames_stop, frames_then}
 use Rattle.mds_pack_rows.specs.DailyTables.{daydetails}
 use Rattle.mds_migrate.specs.Dating.{DatesDays}
 use Rattle.mds_migrate.proofs.DatingLemmas.{dates_all, dates_next, dates_since}

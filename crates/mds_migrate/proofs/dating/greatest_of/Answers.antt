@@ -2,8 +2,8 @@ use Rattle.std.specs.Prelude.{All}
 use Rattle.std.proofs.Common.{IsTrue, subst, rules, refl}
 use Rattle.std.proofs.lemmas.Result.{IfOk-from_err}
 use Rattle.sqlite.specs.Held.{state}
-use Rattle.mds_inserts.proofs.FrameLemmas.{frames_err, frames_so, frames_stop}
-use Rattle.mds_day_details.specs.Shown.{IsDetailRow}
+use Rattle.mds_tables.proofs.FrameLemmas.{frames_err, frames_so, frames_stop}
+use Rattle.mds_commit.specs.Shown.{IsDetailRow}
 use Rattle.mds_migrate.specs.Dating.{SaysFirst}
 use Rattle.mds_migrate.proofs.DatingLemmas.{finds_greatest}
 use Rattle.mds_migrate.proofs.dating.greatest_of.Goals as goal

@@ -1,5 +1,5 @@
 use Rattle.sqlite.specs.Held.{state}
-use Rattle.mds_inserts.proofs.FrameLemmas.{frames_none, frames_so, frames_stop}
+use Rattle.mds_tables.proofs.FrameLemmas.{frames_none, frames_so, frames_stop}
 use Rattle.mds_migrate.proofs.DatingLemmas.{knows_found, knows_still}
 use Rattle.mds_migrate.proofs.dating.know.Goals as goal
 

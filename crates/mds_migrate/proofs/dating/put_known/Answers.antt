@@ -3,9 +3,9 @@ use Rattle.std.proofs.Common.{refl, rules, subst, sym}
 use Rattle.sqlite.specs.Held.{state}
 use Rattle.mds_keeper.specs.Content.{detail_on}
 use Rattle.mds_tables.specs.Tables.{no_more}
-use Rattle.mds_inserts.specs.Parts.{detail_part}
-use Rattle.mds_inserts.specs.Writing.{Puts}
-use Rattle.mds_inserts.proofs.FrameLemmas.{frames_as, frames_each, frames_passed}
+use Rattle.mds_tables.specs.Parts.{detail_part}
+use Rattle.mds_tables.specs.Writing.{Puts}
+use Rattle.mds_tables.proofs.FrameLemmas.{frames_as, frames_each, frames_passed}
 use Rattle.mds_pack_rows.specs.DailyTables.{schema_3}
 use Rattle.mds_pack_rows.proofs.DetailLemmas.{puts_on_days}
 use Rattle.mds_migrate.specs.Dating.{known_on}

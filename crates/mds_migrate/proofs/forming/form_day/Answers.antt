@@ -3,7 +3,7 @@ use Rattle.sqlite.specs.Held.{state}
 use Rattle.mds_keeper.specs.declared.keeper.Unavailable.{Unavailable}
 use Rattle.mds_tables.specs.Cells.{day_cells}
 use Rattle.mds_tables.specs.Stores.{Selects}
-use Rattle.mds_inserts.proofs.FrameLemmas.{frames_failed, frames_refused, frames_then}
+use Rattle.mds_tables.proofs.FrameLemmas.{frames_failed, frames_refused, frames_then}
 use Rattle.mds_pack_rows.specs.FormLayout.{forms_behind}
 use Rattle.mds_pack_rows.specs.PackTables.{pack_tree, update_columns}
 use Rattle.mds_pack_rows.proofs.FrameLemmas.{frames_finds}

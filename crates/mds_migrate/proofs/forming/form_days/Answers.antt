@@ -2,7 +2,7 @@ use Rattle.std.proofs.Common.{◌≡◌, ◌≤◌, ◌∙◌, IsTrue, subst, ta
 use Rattle.std.specs.List.{AllPairs}
 use Rattle.sqlite.specs.Held.{state}
 use Rattle.sqlite_trees.specs.View.{doubt}
-use Rattle.mds_inserts.proofs.FrameLemmas.{frames_both, frames_err, frames_so, frames_stop, frames_then}
+use Rattle.mds_tables.proofs.FrameLemmas.{frames_both, frames_err, frames_so, frames_stop, frames_then}
 use Rattle.mds_pack_rows.specs.FormLayout.{forms_behind}
 use Rattle.mds_migrate.specs.Forming.{FormsDays, IsBefore}
 use Rattle.mds_migrate.proofs.FormingLemmas.{days_next, forms_all, forms_since}

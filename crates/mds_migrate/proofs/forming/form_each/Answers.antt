@@ -2,7 +2,7 @@ use Rattle.std.proofs.Common.{◌∙◌, Ok, subst, take_all}
 use Rattle.sqlite.specs.Held.{state}
 use Rattle.mds_keeper.specs.declared.keeper.Unavailable.{Unavailable}
 use Rattle.mds_tables.specs.Tables.{no_more}
-use Rattle.mds_inserts.proofs.FrameLemmas.{frames_both, frames_each, frames_none, frames_put, frames_so, frames_stop, frames_then}
+use Rattle.mds_tables.proofs.FrameLemmas.{frames_both, frames_each, frames_none, frames_put, frames_so, frames_stop, frames_then}
 use Rattle.mds_migrate.specs.Forming.{PutsForms}
 use Rattle.mds_migrate.proofs.FormingLemmas.{forms_next, forms_none}
 use Rattle.mds_migrate.proofs.forming.form_each.Goals as goal

@@ -1,7 +1,7 @@
 use Rattle.std.proofs.Common.{◌≡◌, Ok, take}
 use Rattle.sqlite.specs.Held.{state}
 use Rattle.mds_keeper.specs.declared.keeper.Unavailable.{Unavailable}
-use Rattle.mds_inserts.specs.Frames.{Frames}
+use Rattle.mds_tables.specs.Frames.{Frames}
 use Rattle.mds_pack_rows.specs.FormTables.{schema_4}
 use Rattle.mds_migrate.specs.Forming.{PutsForms}
 use Rattle.mds_migrate.proofs.forming.form_each.Given as goal

@@ -5,7 +5,7 @@ use Rattle.sqlite.specs.State.{HasCleanDisk, KeepsCommit}
 use Rattle.mds_tables.specs.Layouts.{rows_layout}
 use Rattle.mds_tables.specs.Stores.{HoldsTablesOf, IsStore, versions_said}
 use Rattle.mds_pack_rows.proofs.TwoSchemas.{tables_seen}
-use Rattle.mds_pack_store.proofs.Adopting.{is_so}
+use Rattle.mds_store.proofs.CurrentAdopting.{is_so}
 use Rattle.mds_migrate.specs.Migrated.{LeavesMigrated, packing}
 use Rattle.mds_migrate.proofs.Asking.{answered_since, holds_still, is_first, isnt_seen, leaves_since, none_of_1, refused_since}
 use Rattle.mds_migrate.proofs.Taking.{leaves_none}

@@ -5,8 +5,8 @@ use Rattle.sqlite.specs.State.{HasCleanDisk, KeepsCommit}
 use Rattle.mds_tables.specs.Stores.{HoldsTablesOf}
 use Rattle.mds_pack_rows.specs.PacksLayout.{packs_layout}
 use Rattle.mds_pack_rows.proofs.TwoSchemas.{tables_seen}
-use Rattle.mds_pack_store.specs.Packed.{ArePacked, IsPackedStore}
-use Rattle.mds_pack_store.proofs.Adopting.{is_so}
+use Rattle.mds_store.specs.Packed.{ArePacked, IsPackedStore}
+use Rattle.mds_store.proofs.CurrentAdopting.{is_so}
 use Rattle.mds_migrate.specs.Migrated.{LeavesMigrated, dating}
 use Rattle.mds_migrate.proofs.Asking.{answered_since, holds_still, is_packed, isnt_seen, leaves_since, none_of_2, refused_since}
 use Rattle.mds_migrate.proofs.Taking.{leaves_none}

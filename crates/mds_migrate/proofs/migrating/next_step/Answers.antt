@@ -3,7 +3,7 @@ use Rattle.sqlite.specs.Held.{state}
 use Rattle.std.specs.Bool.{MatchBool}
 use Rattle.std.proofs.lemmas.Bool.{not-true}
 use Rattle.mds_tables.proofs.CallLemmas.{keeps_same, survives_same}
-use Rattle.mds_pack_store.proofs.Adopting.{is_so}
+use Rattle.mds_store.proofs.CurrentAdopting.{is_so}
 use Rattle.mds_migrate.proofs.Taking.{leaves_none}
 use Rattle.mds_migrate.proofs.migrating.next_step.Goals as goal
 

@@ -2,7 +2,7 @@ use Rattle.std.proofs.Common.{◌≡◌, ◌≤◌, ◌∙◌, subst, take, take
 use Rattle.sqlite.specs.Held.{state}
 use Rattle.sqlite_trees.specs.View.{doubt}
 use Rattle.mds_tables.specs.Tables.{no_more}
-use Rattle.mds_inserts.proofs.FrameLemmas.{frames_both, frames_so, frames_stop, frames_then}
+use Rattle.mds_tables.proofs.FrameLemmas.{frames_both, frames_so, frames_stop, frames_then}
 use Rattle.mds_migrate.specs.Packing.{PacksDays}
 use Rattle.mds_migrate.proofs.PackingLemmas.{packs_all, packs_next, packs_since}
 use Rattle.mds_migrate.proofs.packing.pack_days.Goals as goal

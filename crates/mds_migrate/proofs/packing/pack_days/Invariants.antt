@@ -2,7 +2,7 @@ use Rattle.std.proofs.Common.{◌≡◌, ◌≤◌, Ok, take}
 use Rattle.sqlite.specs.Held.{state}
 use Rattle.sqlite_trees.specs.View.{doubt}
 use Rattle.mds_keeper.specs.declared.keeper.Unavailable.{Unavailable}
-use Rattle.mds_inserts.specs.Frames.{Frames}
+use Rattle.mds_tables.specs.Frames.{Frames}
 use Rattle.mds_pack_rows.specs.PackTables.{schema_2}
 use Rattle.mds_migrate.specs.Packing.{PacksDays}
 use Rattle.mds_migrate.proofs.packing.pack_days.Given as goal

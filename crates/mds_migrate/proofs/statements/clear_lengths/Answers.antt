@@ -2,7 +2,7 @@ use Rattle.std.proofs.Common.{[], Ok, ap}
 use Rattle.sqlite.specs.Held.{state}
 use Rattle.sqlite.specs.State.{ExecutesInside, HasCleanDisk}
 use Rattle.mds_tables.proofs.CallLemmas.{keeps, still}
-use Rattle.mds_inserts.proofs.FrameLemmas.{frames_failed}
+use Rattle.mds_tables.proofs.FrameLemmas.{frames_failed}
 use Rattle.mds_pack_rows.specs.FormLayout.{forms_behind}
 use Rattle.mds_pack_rows.proofs.FrameLemmas.{frames_there}
 use Rattle.mds_pack_rows.proofs.PutLemmas.{ran_on}

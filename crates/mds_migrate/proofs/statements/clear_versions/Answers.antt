@@ -3,7 +3,7 @@ use Rattle.sqlite.specs.Held.{state}
 use Rattle.sqlite.specs.State.{ExecutesInside, HasCleanDisk}
 use Rattle.mds_tables.specs.Tables.{schema_with, version_table, version_tree}
 use Rattle.mds_tables.proofs.CallLemmas.{still, keeps, survives_more}
-use Rattle.mds_inserts.proofs.FrameLemmas.{frames_failed}
+use Rattle.mds_tables.proofs.FrameLemmas.{frames_failed}
 use Rattle.mds_pack_rows.specs.PackTables.{packs_then}
 use Rattle.mds_pack_rows.specs.PacksLayout.{nothing_behind}
 use Rattle.mds_pack_rows.specs.Putting.{GoesOn, IsThere}

@@ -15,7 +15,7 @@ use Rattle.mds_migrate.proofs.StatementTexts.{rowid_columns, select_rowids, sele
 use Rattle.mds_migrate.proofs.statements.raise_version.Given.{Over}
 use Rattle.mds_migrate.proofs.statements.raise_version.Goals.{In_ok-rows}
 use Rattle.mds_tables.proofs.CallLemmas.{survives_more}
-use Rattle.mds_inserts.proofs.FrameLemmas.{frames_failed}
+use Rattle.mds_tables.proofs.FrameLemmas.{frames_failed}
 use Rattle.mds_migrate.proofs.statements.raise_version.Goals as goal
 
 -- the rowids were found

@@ -10,7 +10,7 @@ use Rattle.sqlite.proofs.InsideLemmas.{keeps_then, unchanged_keeps}
 use Rattle.sqlite.proofs.StateLemmas.{survives_then}
 use Rattle.sqlite_trees.specs.View.{doubt}
 use Rattle.mds_tables.proofs.CallLemmas.{survives_more}
-use Rattle.mds_inserts.specs.Frames.{IsAt}
+use Rattle.mds_tables.specs.Frames.{IsAt}
 use Rattle.mds_migrate.specs.Migrated.{IsFor, LeavesWritten, Step, Writes}
 use Rattle.mds_migrate.proofs.step.write.Goals as goal
 

@@ -1,5 +1,5 @@
 use Rattle.std.proofs.Common.{◌≡◌, ◌<◌, Some, ap, length, map, ◌∙◌, rules}
-use Rattle.mds_inserts.proofs.RowLemmas.{of}
+use Rattle.mds_tables.proofs.RowLemmas.{of}
 use Rattle.mds_pack_rows.specs.PackFacts.{minutes_of, readings_in}
 use Rattle.mds_pack_rows.proofs.BodyLemmas.{length_back, says}
 use Rattle.mds_pack_rows.proofs.PutLemmas.{says_day, says_some, whole_said}

@@ -2,7 +2,7 @@ use Rattle.std.proofs.Common.{◌≡◌, IfSome, ap, length, refl, subst, sym, �
 use Rattle.std.specs.List.{flat_map}
 use Rattle.std.proofs.lemmas.Result.{IfOk-from_err}
 use Rattle.sqlite.specs.Held.{state}
-use Rattle.mds_inserts.proofs.RowLemmas.{of}
+use Rattle.mds_tables.proofs.RowLemmas.{of}
 use Rattle.mds_tables.proofs.CallLemmas.{keeps_same, survives_same}
 use Rattle.mds_pack_rows.specs.Eights.{SayDays, SaySome, said_by}
 use Rattle.mds_pack_rows.proofs.EightLemmas.{put_as}

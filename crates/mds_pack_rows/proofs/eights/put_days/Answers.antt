@@ -3,7 +3,7 @@ use Rattle.sqlite.specs.Held.{state}
 use Rattle.mds_keeper.specs.Content.{version_fact, versions_of}
 use Rattle.mds_tables.proofs.CallLemmas.{keeps_same, survives_more, survives_same}
 use Rattle.mds_pack_rows.specs.Putting.{PutsFacts}
-use Rattle.mds_inserts.proofs.Eights.{chunks_are, flat, flat_more}
+use Rattle.mds_tables.proofs.Eights.{chunks_are, flat, flat_more}
 use Rattle.mds_pack_rows.proofs.EightLemmas.{puts_both}
 use Rattle.mds_pack_rows.proofs.PutLemmas.{if_ok, kept_then, puts_none}
 use Rattle.mds_pack_rows.proofs.eights.put_days.Goals as goal

@@ -1,7 +1,7 @@
 use Rattle.std.proofs.Common.{◌≡◌, map, take}
 use Rattle.sqlite.specs.Held.{state}
 use Rattle.sqlite.specs.State.{KeepsCommit, Survives}
-use Rattle.mds_inserts.proofs.Eights.{flat}
+use Rattle.mds_tables.proofs.Eights.{flat}
 use Rattle.mds_keeper.specs.Content.{version_fact, versions_of}
 use Rattle.mds_pack_rows.specs.Putting.{IsThere, PutsFacts}
 use Rattle.mds_pack_rows.proofs.eights.put_days.Given as goal

@@ -1,7 +1,7 @@
 use Rattle.std.proofs.Common.{subst, ap, ◌∙◌}
 use Rattle.std.specs.Prelude.{IfSome}
 use Rattle.sqlite.specs.Held.{state}
-use Rattle.mds_inserts.proofs.RowLemmas.{of}
+use Rattle.mds_tables.proofs.RowLemmas.{of}
 use Rattle.mds_pack_rows.specs.PackFacts.{readings_facts}
 use Rattle.mds_pack_rows.specs.Putting.{SayRows}
 use Rattle.mds_pack_rows.proofs.PutLemmas.{if_ok, puts_as}

@@ -1,5 +1,5 @@
 use Rattle.std.proofs.Common.{[], ◌∷◌, refl, ◌∙◌}
-use Rattle.mds_inserts.proofs.Eights.{bound_flat, eight_are}
+use Rattle.mds_tables.proofs.Eights.{bound_flat, eight_are}
 use Rattle.mds_pack_rows.proofs.statements.eight_cells.Goals as goal
 
 pub returns : goal.returns

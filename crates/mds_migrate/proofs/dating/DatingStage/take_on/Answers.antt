@@ -1,6 +1,6 @@
 use Rattle.std.proofs.Common.{◌∙◌, Ok}
 use Rattle.sqlite.specs.Held.{state}
-use Rattle.mds_inserts.proofs.FrameLemmas.{frames_as, frames_both, frames_failed, frames_stop}
+use Rattle.mds_tables.proofs.FrameLemmas.{frames_as, frames_both, frames_failed, frames_stop}
 use Rattle.mds_pack_rows.specs.DailyLayout.{daydetails_behind}
 use Rattle.mds_pack_rows.specs.DailyTables.{schema_3}
 use Rattle.mds_pack_rows.specs.Making.{MakesTable}

@@ -1,7 +1,7 @@
 use Rattle.std.proofs.Common.{◌∙◌, Ok}
 use Rattle.sqlite.specs.Held.{state}
 use Rattle.mds_tables.specs.Tables.{schema_1}
-use Rattle.mds_inserts.proofs.FrameLemmas.{frames_as, frames_both, frames_failed, frames_stop}
+use Rattle.mds_tables.proofs.FrameLemmas.{frames_as, frames_both, frames_failed, frames_stop}
 use Rattle.mds_pack_rows.specs.Making.{MakesTable}
 use Rattle.mds_pack_rows.specs.PackTables.{schema_2}
 use Rattle.mds_pack_rows.specs.PacksLayout.{nothing_behind}

@@ -1,0 +1,12 @@
+use Rattle.mds_selects.proofs.QueryLemmas.{queried}
+use Rattle.mds_pack_rows.specs.Current.{current_layout}
+use Rattle.mds_commit.proofs.DetailTexts.{select_nearest, select_nearest_plain}
+use Rattle.mds_commit.proofs.NearestRows.{finds_nearest}
+use Rattle.mds_commit.proofs.rows.nearest_rows.Goals as goal
+
+pub returns : goal.returns
+returns g c =
+    queried current_layout select_nearest select_nearest_plain _
+    (λ clean. finds_nearest c.args.stream.now c.args.day _ _ (λ v. v.items) c.query_all.result
+    (rw c.day_cells.ensures at (c.query_all.ensures.ok clean)))
+    c.query_all.ensures.err c.query_all.ensures.mode c.query_all.ensures.survives

@@ -1,0 +1,36 @@
+-- mds_form as data: a head, but for its unit.
+use Rattle.std.specs.Prelude.{codes}
+use Rattle.std.proofs.Common.{refl, arith}
+use Rattle.sqlite.specs.Listing.{understood}
+use Rattle.sqlite_tied.specs.Compute.{everything}
+use Rattle.mds_world.specs.declared.facts.Head.{Head}
+use Rattle.mds_tables.specs.Tables.{More}
+use Rattle.mds_tables.proofs.InsertLemmas.{cast_int}
+use Rattle.mds_tables.specs.Tabling.{IsTabled, Tabling}
+use Rattle.mds_pack_rows.specs.Current.{current_more}
+use Rattle.mds_pack_rows.specs.FormTables.{form_table}
+use Rattle.mds_commit.specs.FormPutting.{form_part}
+
+abbrev pub form_tabling : Tabling Head
+form_tabling = record {
+  place = form_part.place;
+  table = form_table;
+  behind = λ _. current_more;
+  cells = form_part.cells;
+  fact = form_part.fact;
+  read = form_part.read;
+  width = 5;
+  one = codes "INSERT INTO mds_form (nmi, suffix, day, moment, length) VALUES (?1, ?2, ?3, ?4, ?5)";
+  many = codes "INSERT INTO mds_form (nmi, suffix, day, moment, length) VALUES (?1, ?2, ?3, ?4, ?5), (?6, ?7, ?8, ?9, ?10), (?11, ?12, ?13, ?14, ?15), (?16, ?17, ?18, ?19, ?20), (?21, ?22, ?23, ?24, ?25), (?26, ?27, ?28, ?29, ?30), (?31, ?32, ?33, ?34, ?35), (?36, ?37, ?38, ?39, ?40)";
+}
+
+pub form_is : (rest : More) → IsTabled form_tabling rest
+unfolding understood everything
+form_is rest = record {
+  placed = refl;
+  wide = λ x. refl;
+  fits = λ x. rw (cast_int, cast_int, cast_int) refl;
+  says = λ x id. refl;
+  one = record { is = refl; plain = (refl, refl); whole = (omega arith, refl, refl) };
+  many = record { is = refl; plain = (refl, refl); whole = (omega arith, refl, refl) };
+}

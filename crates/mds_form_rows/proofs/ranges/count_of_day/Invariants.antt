@@ -1,6 +1,0 @@
-use Rattle.std.proofs.Common.{take}
-use Rattle.mds_form_rows.specs.Ranges.{AreOfDay}
-use Rattle.mds_form_rows.proofs.ranges.count_of_day.Given as goal
-
-abbrev pub invariant-loop-i : goal.invariant-loop-i
-invariant-loop-i l = AreOfDay l.day (take l.i l.rows)

@@ -1,5 +1,0 @@
-use Rattle.std.proofs.Common.{length}
-use Rattle.mds_form_rows.proofs.units.+are_like.Given as goal
-
-abbrev pub decreases-are_like : goal.decreases-are_like
-decreases-are_like l = length l.heads.now

@@ -1,3 +1,0 @@
-pub mod Adopting
-pub mod Keeping
-pub mod RowTexts

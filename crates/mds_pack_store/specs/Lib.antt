@@ -1,5 +1,0 @@
-pub mod Daily
-pub mod Formed
-pub mod Packed
-pub mod Props
-pub mod Shown

@@ -1,0 +1,9 @@
+use Rattle.mds_tables.specs.MadeRows.{IsRowOfPeriod}
+use Rattle.mds_tables.proofs.RowLemmas.{rows_more}
+use Rattle.mds_tables.proofs.periods.period_rows.Goals as goal
+
+pub loop-i-preserved : goal.loop-i-preserved
+loop-i-preserved c =
+    rows_more IsRowOfPeriod c.args.periods.now c.loop-i.i c.index-periods-i.result c.loop-i.rows.items c.push.new.self.items
+    c.in_ok-row.row c.loop-i-test.true c.index-periods-i.is c.loop-i.invariant c.in_ok-row.ensures
+    c.in_ok-push.ensures.items
