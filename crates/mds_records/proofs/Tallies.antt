@@ -124,3 +124,11 @@ left_means_more text at k left =
 -- the sum of a day's values is an i128
 pub sum_fits : (sum : ℤ) (n : ℕ) → n ≤ 288 → unsigned_abs sum ≤ n * 10 ^ 18 → to_z w128 (of_z w128 sum) ≡ sum
 sum_fits sum n few small = to_z-of_z w128 sum (fits_signed_from_abs w128 sum (omega arith))
+
+-- one more field that passes, where none before it failed
+pub none_false_more : (p : List ℕ → Bool) (fields : List (List ℕ)) (k : ℕ) → k < length fields → p (get_or fields k []) ≡ true → first_false 3 (map p (take k fields)) ≡ None → first_false 3 (map p (take (k + 1) fields)) ≡ None
+none_false_more p fields k there h e = first_false_more p fields k there ∙ rw (h, e) refl
+
+-- one more value below 10^18 keeps a sum small
+pub more_small : (a b k : ℕ) → a ≤ b + 10 ^ 18 → b ≤ k * 10 ^ 18 → a ≤ (k + 1) * 10 ^ 18
+more_small a b k h e = omega arith

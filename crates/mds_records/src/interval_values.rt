@@ -1,9 +1,9 @@
 //! The values of a day, read once.
 
-ghost use Rattle.std.specs.Prelude.{◌≡◌, ◌<◌, ◌≤◌, ◌||◌, [], not, length, map, take, if◌then◌else◌, is_some, Some, IfOk, IfSome, IfNone, OnSome};
+ghost use Rattle.std.specs.Prelude.{◌≡◌, ◌*◌, ◌^◌, ◌<◌, ◌≤◌, ◌||◌, [], not, length, map, take, drop, unsigned_abs, if◌then◌else◌, is_some, Some, None, IfOk, IfSome, IfNone, OnSome};
 ghost use Rattle.mds_lines.specs.Lines.{fields_of};
-ghost use Rattle.mds_records.specs.RecordSteps.{AreValues};
-ghost use Rattle.mds_records.specs.Records.{quantity_in};
+ghost use Rattle.mds_records.specs.RecordSteps.{AreValues, first_false, is_empty_or_quantity, is_there};
+ghost use Rattle.mds_records.specs.Records.{quantity_in, sum_of};
 
 use mds_quantity::Quantity;
 use std::alloc::{AllocError, Global};
@@ -11,6 +11,9 @@ use std::marker::Model;
 
 /// The most values of a day: those of intervals of 5 minutes.
 const MOST: usize = 288;
+
+/// The length in bytes of a short value with the comma after it.
+const SHORT_STEP: usize = 6;
 
 /// The values of a day's intervals, in order. A value is `None` if its field is empty.
 #[derive(Drop)]
@@ -47,6 +50,17 @@ pub(crate) struct DayValues<'a> {
     /// Their sum, in millionths.
     pub(crate) sum: i128,
     pub(crate) faults: ValueFaults,
+}
+
+/// What the short values at the start of a text amount to.
+#[derive(Clone, Copy)]
+struct ShortValues {
+    /// How many there are.
+    count: usize,
+    /// Where the next value begins.
+    at: usize,
+    /// Their sum, in millionths.
+    sum: i128,
 }
 
 impl IntervalValues {
@@ -115,6 +129,39 @@ fn read_front<'a>(
     read_values(text, &mut slots[..count])
 }
 
+/// Reads short values at the start of a text, one into each slot from the first on, up to the first
+/// value that isn't short. Most days have no other values. It is kept out of line, so that its loop
+/// has all registers.
+#[inline(never)]
+fn read_short_values(text: &[u8], slots: &mut [Option<Quantity>]) -> ShortValues
+    requires few { length slots.old ≤ 288 }
+    ensures few { result.count ≤ length slots.old }
+    ensures within { result.at ≤ length text.now }
+    ensures left { fields_of (drop result.at text.now) ≡ drop result.count (fields_of text.now) }
+    ensures held { take result.count slots.new ≡ map quantity_in (take result.count (fields_of text.now)) }
+    ensures sum { result.sum ≡ sum_of (take result.count (fields_of text.now)) }
+    ensures small { unsigned_abs result.sum ≤ result.count * 10 ^ 18 }
+    ensures bad { first_false 3 (map is_empty_or_quantity (take result.count (fields_of text.now))) ≡ None }
+    ensures empty { first_false 3 (map is_there (take result.count (fields_of text.now))) ≡ None }
+{
+    let mut at = 0;
+    let mut sum: i128 = 0;
+    for k in 0..slots.len() {
+        let (_, left) = text.split_at(at);
+        let Some(quantity) = Quantity::read_short(left) else {
+            return ShortValues { count: k, at, sum };
+        };
+        slots[k] = Some(quantity);
+        sum += i128::from(quantity.millionths());
+        at += SHORT_STEP;
+    }
+    ShortValues {
+        count: slots.len(),
+        at,
+        sum,
+    }
+}
+
 /// Reads as many values at the start of a text as there are slots, one into each. `None` if no
 /// field follows them. It is kept out of line, so that its loop keeps its counters in registers.
 #[inline(never)]
@@ -124,13 +171,14 @@ fn read_values<'a>(text: &'a [u8], slots: &mut [Option<Quantity>]) -> Option<Day
     ensures some { IfSome result (λ values. AreValues (length slots.old) (fields_of text.now) values) }
     ensures held { OnSome result (slots.new ≡ map quantity_in (take (length slots.old) (fields_of text.now))) }
 {
-    let mut at = 0;
-    let mut sum: i128 = 0;
+    let front = read_short_values(text, slots);
+    let mut at = front.at;
+    let mut sum = front.sum;
     let mut faults = ValueFaults {
         bad: None,
         empty: None,
     };
-    for k in 0..slots.len() {
+    for k in front.count..slots.len() {
         let (_, left) = text.split_at(at);
         let (value, length) = Quantity::read_field(left);
         match value {

@@ -1,4 +1,4 @@
-use Rattle.std.proofs.Common.{rules, ◌≡◌, ℕ, ◌+◌, ◌≤◌, ◌||◌, Bool, not, eqb, [], length, take, set, get_or, is_some, is_ok, Option, Some, refl, sym, ◌∙◌, ap, arith, if◌then◌else◌, ◌+ℤ◌, to_z, unsigned_abs, ◌^◌}
+use Rattle.std.proofs.Common.{rules, ◌≡◌, ℕ, ◌+◌, ◌*◌, ◌<◌, ◌≤◌, ◌||◌, Bool, not, eqb, [], length, take, set, get_or, is_some, is_ok, Option, Some, refl, subst, sym, ◌∙◌, ap, arith, if◌then◌else◌, ◌+ℤ◌, to_z, unsigned_abs, ◌^◌}
 use Rattle.std.specs.Int.{w128}
 use Rattle.std.specs.Result.{result_ok}
 use Rattle.std.proofs.lemmas.List.{take_all}
@@ -7,12 +7,15 @@ use Rattle.mds_quantity.specs.Quantity.{denoted}
 use Rattle.mds_lines.specs.Lines.{fields_of}
 use Rattle.mds_records.specs.Records.{amount_of, sum_of}
 use Rattle.mds_records.specs.RecordSteps.{is_empty_or_quantity, is_there}
-use Rattle.mds_records.proofs.Tallies.{field_at, tested, quantity_is_there, slot_more, no_bad, no_empty, bad_noted, sum_of_more, first_false_more, left_means_more}
+use Rattle.mds_records.proofs.Tallies.{field_at, tested, quantity_is_there, slot_more, no_bad, no_empty, bad_noted, sum_of_more, first_false_more, left_means_more, more_small, sum_fits}
 use Rattle.mds_records.proofs.interval_values.read_values.Goals as goal
 use Rattle.mds_records.proofs.interval_values.read_values.Goals.{in-Ok, in-Err}
 
 pub loop-k-init : goal.loop-k-init
-loop-k-init c = record { within = omega arith; left = refl; held = refl; sum = refl; small = omega arith; bad = refl; empty = refl }
+loop-k-init c =
+    let front = c.read_short_values-front.ensures in
+    let fits = sum_fits c.read_short_values-front.result.sum c.read_short_values-front.result.count (omega (arith, front.few, c.requires.few)) front.small in
+    record { within = front.within; left = front.left; held = front.held; sum = fits ∙ front.sum; small = subst (λ z. unsigned_abs z ≤ c.read_short_values-front.result.count * 10 ^ 18) (sym fits) front.small; bad = sym front.bad; empty = sym front.empty }
 
 pub split_at-requires : goal.split_at-requires
 split_at-requires c = c.loop-k.invariant.within
@@ -64,14 +67,15 @@ loop-k-preserved c =
       | in-Ok w ↦ rw (w.faults-is) (no_empty c.loop-k.faults.empty (eqb n 0) (c.loop-k.k + 3) (quantity_is_there (get_or fs c.loop-k.k []) n w.in-Ok.quantity f.size (sym w.in-Ok.is ∙ same)))
       | in-Err w ↦ rw (w.faults-is) (w.note.ensures.empty)
     ] in
+    let here : c.loop-k.k < length c.loop-k.slots = search rules in
     record {
       within = omega (arith, f.within);
       left = more.0;
       held = ap (λ q. take (c.loop-k.k + 1) (set c.loop-k.slots c.loop-k.k q)) (c.ok.ensures.value ∙ ap result_ok (kept ∙ same))
-          ∙ slot_more c.loop-k.slots fs c.loop-k.k (omega (arith, c.loop-k.auto.slots)) f.there c.loop-k.invariant.held;
+          ∙ slot_more c.loop-k.slots fs c.loop-k.k here f.there c.loop-k.invariant.held;
       sum = sum ∙ ap (λ s. s +ℤ amount_of value) c.loop-k.invariant.sum
           ∙ ap (λ v. sum_of (take c.loop-k.k fs) +ℤ amount_of v) same ∙ sym (sum_of_more fs c.loop-k.k f.there);
-      small = omega (arith, small, c.loop-k.invariant.small);
+      small = more_small _ _ c.loop-k.k small c.loop-k.invariant.small;
       bad = bad ∙ ap (λ (x : Bool). if is_some c.loop-k.faults.bad || x then c.loop-k.faults.bad else Some (c.loop-k.k + 3)) test
           ∙ ap (λ (b : Option ℕ). if is_some b || is_empty_or_quantity (get_or fs c.loop-k.k []) then b else Some (c.loop-k.k + 3)) c.loop-k.invariant.bad
           ∙ sym (first_false_more is_empty_or_quantity fs c.loop-k.k f.there);
