@@ -13,7 +13,7 @@ complete -c mdstore -n __fish_is_first_token -s V -l version -d 'Print version'
 
 complete -c mdstore -n '__fish_is_first_token; or __mdstore_command help' -a check -d 'Checks a file, and prints a line for each day or accumulation'
 complete -c mdstore -n '__fish_is_first_token; or __mdstore_command help' -a init -d 'Makes a store in a new file'
-complete -c mdstore -n '__fish_is_first_token; or __mdstore_command help' -a migrate -d 'Migrates a store of an earlier schema to schema 4'
+complete -c mdstore -n '__fish_is_first_token; or __mdstore_command help' -a migrate -d 'Migrates a store of an earlier schema to that of this version'
 complete -c mdstore -n '__fish_is_first_token; or __mdstore_command help' -a import -d 'Adds the data of files to a store'
 complete -c mdstore -n '__fish_is_first_token; or __mdstore_command help' -a substitute -d 'Fills in readings of a day by a substitution job, and keeps the job'
 complete -c mdstore -n '__fish_is_first_token; or __mdstore_command help' -a holidays -d 'Lists days as holidays'

@@ -12,6 +12,7 @@ import tempfile
 from common.checks import check, not_run
 from common.many_runs import ManyRuns, Shared, built, shared_numbers
 from common.programs import MDSTORE, limited, mdstore
+from common.schemas import CURRENT
 from inputs.file_parts import block, day, file_of, period
 from inputs.old_stores import PERIOD_HEADER, build, build_step, job, opened, run
 
@@ -166,7 +167,7 @@ def commands():
         "export": Command(EXPORT, "", days, exported, exported),
         "migrate": Command(["migrate"], "", old_store_of_a_day(1), "migrated\n", "already current\n", after_steps(old_store_of_a_day)),
         "migrate of many days": Command(["migrate"], "", old_store(1), "migrated\n", "already current\n", after_steps(old_store)),
-        "migrate from schema 3": Command(["migrate"], "", old_store_of_a_day(3), "migrated\n", "already current\n"),
+        "migrate by one step": Command(["migrate"], "", old_store_of_a_day(CURRENT - 1), "migrated\n", "already current\n"),
     }
 
 

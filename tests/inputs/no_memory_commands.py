@@ -5,6 +5,7 @@ import re
 
 from common.disturbed import after_steps, old_store_of_a_day, store_of
 from common.programs import MDSTORE
+from common.schemas import CURRENT
 from inputs import no_memory_rows as rows
 from inputs.no_memory_rows import NMI, NUMBER
 
@@ -74,7 +75,7 @@ def changes():
         "holidays": Command(["holidays", *STORE, "@input"], rows.holiday(NUMBER), days, "added 1 known 0\n"),
         "import of another meter": Command(["import", *STORE, "@input"], rows.other_meter(NUMBER), store_of(TWO_DAYS, DAY), "added 0 known 48\n"),
         "migrate": Command(["migrate", *STORE], found=old_store_of_a_day(1), text="migrated\n", between=after_steps(old_store_of_a_day)),
-        "migrate from schema 3": Command(["migrate", *STORE], found=old_store_of_a_day(3), text="migrated\n", asks_again=True),
+        "migrate by one step": Command(["migrate", *STORE], found=old_store_of_a_day(CURRENT - 1), text="migrated\n", asks_again=True),
     }
 
 

@@ -1,10 +1,10 @@
-"""The stores of schemas 1 to 3 that tests/migration takes to schema 4: what they were made from, and what is asked about them.
+"""The stores of earlier schemas that tests/migration migrates: what they were made from, and what is asked about them.
 
     tests/inputs/old_stores.py MDSTORE
 
 It is run with a program that makes stores of one of these schemas. It writes that store as SQL text, tests/fixtures/schema_1.sql or one of the
 files next to it. For schema 1 it also writes what the program answers, tests/fixtures/schema_1.answers. A program of schema 2 has to answer the
-same. So has one of schema 3, except that it returns the lengths of versions, and exports the details that files stated for each day. The
+same. So has one of a later schema, except that it returns the lengths of versions, and exports the details that files stated for each day. The
 programs were those of commits ec70073, 286d010 and 6bf038a. Their stores depend on nothing but their input, so another run writes the same
 bytes.
 """

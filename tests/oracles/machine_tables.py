@@ -5,6 +5,7 @@ import contextlib
 import datetime
 import sqlite3
 
+from common.schemas import CURRENT
 from oracles.packed_days import rows_of
 
 EPOCH = datetime.datetime(1970, 1, 1)
@@ -45,7 +46,7 @@ def tables_of(machine):
     periods = [(*stream, register, *map(seconds, moments), "\n".join(map(",".join, [fields, *notes])))
                for stream, kept in machine.periods.items() for (register, *moments), (fields, notes) in kept.items()]
     jobs = [(name, ",".join(str(job[part]) for part in JOB), count) for name, (job, count) in machine.jobs.items()]
-    rows = {"mds_schema": [(4,)], "mds_head": heads, "mds_version": [], "mds_detail": [], "mds_event": events, "mds_period": periods,
+    rows = {"mds_schema": [(CURRENT,)], "mds_head": heads, "mds_version": [], "mds_detail": [], "mds_event": events, "mds_period": periods,
             "mds_holiday": [(day_number(date),) for date in machine.holidays], "mds_job": jobs, "mds_pack": rows_of(versions, counts),
             "mds_daydetail": details, "mds_form": forms}
     return {table: sorted(its) for table, its in rows.items()}

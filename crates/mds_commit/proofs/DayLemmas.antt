@@ -25,9 +25,9 @@ use Rattle.mds_tables.specs.Tables.{form_tree, head_tree}
 use Rattle.mds_tables.proofs.Named.{of_version}
 use Rattle.mds_selects.proofs.Listed.{day_on, on_day}
 use Rattle.mds_selects.proofs.TypedRows.{head_row}
-use Rattle.mds_pack_rows.specs.Current.{current_layout, current_more, current_schema, current_world}
+use Rattle.mds_pack_rows.specs.Current.{current_layout, current_more, current_packs, current_schema, current_world}
 use Rattle.mds_pack_rows.specs.DayRows.{shown_facts}
-use Rattle.mds_pack_rows.specs.FormLayout.{forms_packs, unit_in}
+use Rattle.mds_pack_rows.specs.FormLayout.{unit_in}
 use Rattle.mds_pack_rows.specs.PackFacts.{body_facts, facts_from, minutes_of, pack_facts, pack_versions, readings_in}
 use Rattle.mds_pack_rows.specs.PackTables.{pack_tree}
 use Rattle.mds_pack_rows.proofs.AskLemmas.{pack_row}
@@ -125,7 +125,7 @@ module _ (s : Stream) (day : ℕ) (low : day < 2 ^ 63) (trees : Trees) (sound : 
     said : (key : Key) (reading : ReadingValue) → (VersionIs key reading ∈ current_world trees) ↔ Member (VersionIs key reading) (pack_versions trees)
     said key reading =
         let own = of_version current_layout trees key reading in
-        let packed = forms_packs.versions trees key reading in
+        let packed = current_packs.versions trees key reading in
         (λ m. packed.0 (own.0 m), λ m. own.1 (packed.1 m))
 
     version_shown : (key : Key) (reading : ReadingValue) → IsVersionHere key reading → Member (VersionIs key reading) (flat_map (shown_facts s day) packs)
@@ -137,7 +137,7 @@ module _ (s : Stream) (day : ℕ) (low : day < 2 ^ 63) (trees : Trees) (sound : 
         let stream : stream_in r ≡ s = sym at.0 ∙ p.1 in
         let on : natural_at r 3 ≡ day = sym at.1 ∙ p.2 in
         let shown = map (column r) (4 ∷ 5 ∷ more) in
-        let begins = day_on s day r low (pack_row forms_packs.rest.more trees sound r here.1) stream on in
+        let begins = day_on s day r low (pack_row current_packs.rest.more trees sound r here.1) stream on in
         flat_in (shown_facts s day) packs f shown ((of_packs shown).1 (r, here.1, begins, refl)) (subst (Member f) (same_day_facts r stream on) here.2)
 
     shown_version : (key : Key) (reading : ReadingValue) → Member (VersionIs key reading) (flat_map (shown_facts s day) packs)

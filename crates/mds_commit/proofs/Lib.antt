@@ -1,3 +1,4 @@
+pub mod AfterLemmas
 pub mod BookLemmas
 pub mod CommitLemmas
 pub mod CutLemmas

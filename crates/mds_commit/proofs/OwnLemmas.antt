@@ -1,4 +1,4 @@
--- Heads, versions and details that are put in turn, as what the layout of schema 4 says by itself.
+-- Heads, versions and details that are put in turn, as what the current layout says by itself.
 use Rattle.std.proofs.Common.{◌≡◌, ◌++◌, List, map, Result, sym, subst, ◌∙◌, append_assoc, arith}
 use Rattle.sqlite.specs.Effect.{Database}
 use Rattle.sqlite.specs.Schema.{Schema}
@@ -17,16 +17,15 @@ use Rattle.mds_tables.specs.Frames.{Frames, IsAt}
 use Rattle.mds_tables.specs.MadeRows.{IsRowOfJob, IsRowOfPeriod}
 use Rattle.mds_tables.specs.Parts.{detail_part, head_part, in_turn}
 use Rattle.mds_tables.specs.Refusals.{TakesAll}
-use Rattle.mds_tables.specs.Writing.{HasAddedOf, IsMore, IsSteady, KeepsOthers, Puts, PutsOwn, PutsRestThere}
+use Rattle.mds_tables.specs.Writing.{HasAddedOf, IsMore, IsSteady, Keeps, KeepsOthers, Puts, PutsOwn, PutsRestThere}
 use Rattle.mds_tables.specs.declared.jobs.JobRow.{JobRow}
 use Rattle.mds_tables.specs.declared.periods.PeriodRow.{PeriodRow}
 use Rattle.mds_tables.proofs.PutLemmas.{all_put}
 use Rattle.mds_tables.proofs.RowLemmas.{detail_bare, gains_kept, kept_gains, more, more_both, says_details}
-use Rattle.mds_pack_rows.specs.Current.{current_layout, current_more, current_schema, current_tables}
+use Rattle.mds_pack_rows.specs.Current.{after_details, after_forms, current_layout, current_more, current_schema, current_tables}
 use Rattle.mds_pack_rows.specs.DailyLayout.{daily_own, day_details}
 use Rattle.mds_pack_rows.specs.DailyTables.{daydetails_then}
 use Rattle.mds_pack_rows.specs.FormLayout.{form_heads}
-use Rattle.mds_pack_rows.specs.FormTables.{forms}
 use Rattle.mds_pack_rows.specs.PackFacts.{pack_versions}
 use Rattle.mds_pack_rows.specs.PackTables.{pack_tree}
 use Rattle.mds_pack_rows.specs.Putting.{ChangesPacks, NamesMore}
@@ -35,6 +34,7 @@ use Rattle.mds_pack_rows.proofs.NameLemmas.{named_on}
 use Rattle.mds_commit.specs.Committing.{KeepsUnits, PutsDays}
 use Rattle.mds_commit.specs.FormPutting.{GainsForms, SayUnits, form_part}
 use Rattle.mds_commit.specs.Units.{AsksThere}
+use Rattle.mds_commit.proofs.AfterLemmas.{keeps_on, untouched}
 use Rattle.mds_commit.proofs.FormLemmas.{forms_more}
 use Rattle.mds_commit.proofs.KeepLemmas.{heads_keep}
 
@@ -43,7 +43,7 @@ use Rattle.mds_commit.proofs.KeepLemmas.{heads_keep}
 -- questions to mds_head
 pub frames_asked : {X E : Type 0} (a b : State) (r : Result X E) (Tells : X → Trees → Type 0) → AsksThere a b r Tells
     → Frames current_schema (λ x. IsUnchanged a b × Tells x a.now.trees) a b r
-frames_asked a b r Tells asks = frames_finds (daydetails_then forms) a b r Tells asks.ok asks.goes_on asks.kept asks.survives
+frames_asked a b r Tells asks = frames_finds (daydetails_then after_details) a b r Tells asks.ok asks.goes_on asks.kept asks.survives
 
 -- what they tell of the days that were put is still so
 pub days_put : (a b c : State) (additions : Additions) → IsAt current_schema a
@@ -78,6 +78,7 @@ steady_forms a b c d additions heads _ first has heads_then _ last = (
   named_on a b c d (map version_fact (versions_of additions.days.items)) first.0 last.0 has.2,
   gains_kept daydetail_tree (map detail_cells (details_of additions.details.items)) a c d
       (kept_gains daydetail_tree (map detail_cells (details_of additions.details.items)) a b c first.1.0 has.3) last.1.0,
+  keeps_on a c d after_forms.tables (keeps_on a b c after_forms.tables first.1.1.1 has.4) last.1.1.1,
 )
 
 -- new days, versions, heads and details in turn
@@ -85,7 +86,7 @@ module _ (a b c d e : State) (additions : Additions) where
   abbrev version_facts : List Fact
   version_facts = map version_fact (versions_of additions.days.items)
 
-  -- under the tables of schema 4
+  -- under the current tables
   pub own_put : IsSound current_schema a.now.trees → PutsDays a b additions
       → ChangesPacks b c × NamesMore b.now.trees c.now.trees version_facts → Puts current_schema form_part c d (heads_of additions)
       → Puts current_schema detail_part d e (details_of additions.details.items) → PutsOwn current_layout GainsForms a e additions
@@ -118,6 +119,12 @@ module _ (a b c d e : State) (additions : Additions) where
       let packs_put : NamesMore one last version_facts = named_on one two three last version_facts unpacked packed packs.1 in
       let dates : Gains daydetail_tree (map detail_cells (details_of additions.details.items)) one last =
       kept_gains daydetail_tree (map detail_cells (details_of additions.details.items)) one four last undated details.rows in
+      let left : Keeps one last after_forms.tables =
+      keeps_on one four last after_forms.tables
+      (keeps_on one three four after_forms.tables
+      (keeps_on one two three after_forms.tables (untouched one two head_tree (omega arith) p.1.1.1.1.1.1.1.1.1.1.1)
+      (untouched two three pack_tree (omega arith) q.1.1.1.1.1.1.1.1.1.1.1))
+      (untouched three four form_tree (omega arith) r.1.1.1.1.1.1.1.1.1.1.1)) (untouched four last daydetail_tree (omega arith) s.1.1.1.1.1.1.1.1.1.1.1) in
       let keeps : KeepsUnits additions.new_days.items (one head_tree) (last head_tree) =
       subst (KeepsUnits additions.new_days.items (one head_tree)) (sym heads) days.keeps in
       let say : SayUnits (heads_of additions) last = λ head m row n. days.say head m row (subst (Member row) heads n) in
@@ -131,7 +138,7 @@ module _ (a b c d e : State) (additions : Additions) where
       (more detail_part detail_bare (details_of additions.details.items) (says_details (details_of additions.details.items)) one last dates)) in
       record {
         schema = details.schema;
-        rows = (new_days, forms_put, packs_put, dates);
+        rows = (new_days, forms_put, packs_put, dates, left);
         names = subst (IsMore (form_heads last ++ daily_own last) (form_heads one ++ daily_own one))
             (sym (append_assoc (map HeadIs (heads_of additions)) version_facts (map DetailIs (details_of additions.details.items)))) named;
         others = (

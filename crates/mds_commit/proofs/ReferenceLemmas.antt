@@ -23,10 +23,10 @@ use Rattle.mds_selects.proofs.MemberLemmas.{all_has}
 use Rattle.mds_selects.proofs.QueryLemmas.{kept}
 use Rattle.mds_selects.proofs.TypedLemmas.{AreFor, AreTyped, alike, both}
 use Rattle.mds_selects.proofs.TypedRows.{HasKeyCells, head_row}
-use Rattle.mds_pack_rows.specs.Current.{current_more, current_schema, current_tables}
+use Rattle.mds_pack_rows.specs.Current.{after_details, current_more, current_schema, current_tables}
 use Rattle.mds_pack_rows.specs.DailyTables.{daydetails_then}
 use Rattle.mds_pack_rows.specs.FormLayout.{day_in}
-use Rattle.mds_pack_rows.specs.FormTables.{form_key, form_table, forms, to_pack}
+use Rattle.mds_pack_rows.specs.FormTables.{form_key, form_table, to_pack}
 use Rattle.mds_pack_rows.specs.PackCells.{key_cells}
 use Rattle.mds_pack_rows.specs.PackTables.{pack_key, pack_table, pack_tree}
 use Rattle.mds_pack_rows.proofs.AskLemmas.{pack_row}
@@ -115,14 +115,14 @@ module _ (db : Trees) (sound : IsSound current_schema db) where
       let same = agrees_four found.0 row found.2 in (
         found.0,
         found.1,
-        one_day_in found.0 row (pack_row (daydetails_then forms) db sound found.0 found.1)
+        one_day_in found.0 row (pack_row (daydetails_then after_details) db sound found.0 found.1)
             (record { nmi = it.0; suffix = it.1.0; number = it.1.1.0 }) same.0 same.1 same.2,
       )
 
   -- and that one of the day of one of mds_head
   has_head : (row : Row) → Member row (db pack_tree) → (head : Row) × Member head (db head_tree) × (day_in head ≡ day_in row)
   has_head row m =
-      let it = pack_row (daydetails_then forms) db sound row m in
+      let it = pack_row (daydetails_then after_details) db sound row m in
       let obeys = (sound.obeys.rules ForeignKey).1.1.1.1.1.1.1.1.0 in
       let refers = (both _ _ (all_has (λ r. passes ForeignKey current_schema db pack_table r ≡ true) (db pack_tree) row obeys m)).0 in
       let whole : has_null day_key row ≡ false = none_three _ _ _ (ap is_null it.nmi) (ap is_null it.suffix) (ap is_null it.number) in

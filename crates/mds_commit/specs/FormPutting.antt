@@ -1,4 +1,4 @@
--- What statements on mds_form do in a transaction, and what a commit of schema 4 leaves (profile).
+-- What statements on mds_form do in a transaction, and what a commit leaves (profile).
 use Rattle.std.specs.Prelude.{◌≡◌, List, [], map}
 use Rattle.sqlite_trees.specs.Tree.{Trees}
 use Rattle.sqlite_value.specs.Order.{Row}
@@ -13,6 +13,8 @@ use Rattle.mds_tables.specs.RowFacts.{text_at, unit_named}
 use Rattle.mds_tables.specs.Stores.{Gained, Gains}
 use Rattle.mds_tables.specs.Tables.{daydetail_tree, form_tree, head_tree}
 use Rattle.mds_tables.specs.Parts.{Part}
+use Rattle.mds_tables.specs.Writing.{Keeps}
+use Rattle.mds_pack_rows.specs.Current.{after_forms}
 use Rattle.mds_pack_rows.specs.FormLayout.{day_in, form_fact}
 use Rattle.mds_pack_rows.specs.Putting.{NamesMore}
 
@@ -36,10 +38,11 @@ SayUnits heads trees =
     (head : Head) → Member head heads → (row : Row) → Member row (trees head_tree) → day_in row ≡ day_of head → unit_named (text_at row 5) ≡ head.unit
 
 -- Each new day has a row in mds_head, and each head one in mds_form. The versions are in mds_pack, and the details of each day
--- have a row in mds_daydetail. All of these are in addition to what was there.
+-- have a row in mds_daydetail. All of these are in addition to what was there. A table that follows mds_form is as it was.
 abbrev pub GainsForms : Gained
 GainsForms old new additions =
     Gains head_tree (map unit_cells additions.new_days.items) old new
     × Gains form_tree (map form_cells (heads_of additions)) old new
     × NamesMore old new (map version_fact (versions_of additions.days.items))
     × Gains daydetail_tree (map detail_cells (details_of additions.details.items)) old new
+    × Keeps old new after_forms.tables

@@ -1,4 +1,4 @@
--- mds_form as data: a head, but for its unit.
+-- mds_form as data, whatever tables follow it: a head, but for its unit.
 use Rattle.std.specs.Prelude.{codes}
 use Rattle.std.proofs.Common.{refl, arith}
 use Rattle.sqlite.specs.Listing.{understood}
@@ -7,15 +7,14 @@ use Rattle.mds_world.specs.declared.facts.Head.{Head}
 use Rattle.mds_tables.specs.Tables.{More}
 use Rattle.mds_tables.proofs.InsertLemmas.{cast_int}
 use Rattle.mds_tables.specs.Tabling.{IsTabled, Tabling}
-use Rattle.mds_pack_rows.specs.Current.{current_more}
-use Rattle.mds_pack_rows.specs.FormTables.{form_table}
+use Rattle.mds_pack_rows.specs.FormTables.{form_table, formed_then}
 use Rattle.mds_commit.specs.FormPutting.{form_part}
 
 abbrev pub form_tabling : Tabling Head
 form_tabling = record {
   place = form_part.place;
   table = form_table;
-  behind = λ _. current_more;
+  behind = formed_then;
   cells = form_part.cells;
   fact = form_part.fact;
   read = form_part.read;

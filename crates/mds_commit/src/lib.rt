@@ -1,5 +1,5 @@
-//! Commits additions to a store of schema 4, and reads days, streams and details of days from it. This crate also makes the tables. In
-//! mds_form each update of a day has a row.
+//! Commits additions to a store of the current schema, and reads days, streams and details of days from it. This crate also makes the
+//! tables. In mds_form each update of a day has a row.
 //!
 //! It decides in which order a commit puts its rows (`committing.rt`), and which days and streams are known (those with a row of mds_form).
 //! It decides when the rows of a day can't be those of a store (`books.rt`), which makes the day unavailable (U1). It decides which details

@@ -1,4 +1,4 @@
-//! Makes the tables of schema 4.
+//! Makes the tables of the current schema.
 
 ghost use Rattle.std.specs.Prelude.{◌≡◌, false, IfErr, IsTrue, OnErr, OnOk};
 ghost use Rattle.sqlite.specs.Held.{state};
@@ -8,7 +8,7 @@ ghost use Rattle.mds_tables.specs.Making.{CommitsMadeOf, HasMadeOf, IsMadeOf, Le
 ghost use Rattle.mds_tables.specs.Tables.{no_schema};
 ghost use Rattle.mds_pack_rows.specs.Current.{current_layout, current_schema};
 
-use mds_pack_rows::make_table;
+use mds_pack_rows::{CURRENT_TABLES, CURRENT_VERSION, make_table};
 use mds_tables::{ready, say_version};
 use sqlite::{Alter, Connection, Error, Transaction};
 
@@ -23,13 +23,13 @@ fn make_each<S: Alter>(tx: &mut Transaction<'_, S>) -> Result<(), Error>
     ensures survives { Survives (state S.Store tx.old.conn.now) (state S.Store tx.new.conn.now) (λ _. ⊥) }
 {
     // decides: which tables does a store have?
-    for n in 0..11 {
+    for n in 0..CURRENT_TABLES {
         make_table(tx, n)?;
     }
     Ok(())
 }
 
-/// Makes the tables, and says that the schema is 4, in a transaction of its own.
+/// Makes the tables, and says the number of the schema, in a transaction of its own.
 fn make_all<S: Alter>(conn: &mut Connection<S>) -> Result<(), Error>
     requires { conn.old.in_transaction ≡ false }
     ensures ok { HasCleanDisk (state S.Store conn.new) → OnOk result (CommitsMadeOf current_layout (state S.Store conn.old) (state S.Store conn.new)) }
@@ -42,11 +42,11 @@ fn make_all<S: Alter>(conn: &mut Connection<S>) -> Result<(), Error>
 {
     let mut tx = conn.transaction();
     make_each(&mut tx)?;
-    say_version(&mut tx, 4)?;
+    say_version(&mut tx, CURRENT_VERSION)?;
     tx.commit()
 }
 
-/// Makes the tables of schema 4 in a database that has none, and says in them that it is 4, all in one transaction. A
+/// Makes the tables of the current schema in a database that has none, and says in them its number, all in one transaction. A
 /// crash leaves what was there, or all of it.
 pub fn make_tables<S: Alter>(conn: &mut Connection<S>) -> Result<(), Error>
     requires { conn.old.in_transaction ≡ false }

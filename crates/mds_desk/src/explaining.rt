@@ -441,8 +441,8 @@ damaged store, restore a backup: `docs/USE.md`, "Backups". For a store with sums
 
 ## U2: The store has an earlier schema
 
-The file is a store of schema 1, 2 or 3, and this version of mdstore uses schema 4. Nothing was
-changed. `mdstore --version` prints the schema.
+The file is a store of an earlier schema than this version of mdstore uses. Nothing was changed.
+`mdstore --version` prints the schema.
 
 Usual causes: an earlier version of mdstore made the store, or a backup of it was restored.
 

@@ -1,5 +1,5 @@
 -- What is answered after a question to the tables, and a step behind it.
-use Rattle.std.proofs.Common.{◌≡◌, [], ◌∷◌, pos, IfErr, IfOk, IsTrue, Ok, Err, Result, sym, subst, arith}
+use Rattle.std.proofs.Common.{◌≡◌, [], ◌∷◌, pos, inl, inr, IfErr, IfOk, IsTrue, Ok, Err, Result, sym, subst, arith}
 use Rattle.sqlite.specs.Effect.{Database}
 use Rattle.sqlite.specs.State.{HasCleanDisk, KeepsCommit, State, Survives}
 use Rattle.sqlite.proofs.InsideLemmas.{keeps_then}
@@ -20,8 +20,8 @@ use Rattle.mds_store.specs.Packed.{ArePacked, IsPackedStore}
 use Rattle.mds_migrate.specs.declared.outcome.Migrated.{Migrated}
 use Rattle.mds_migrate.specs.declared.outcome.Migrated.TheVariants.{Done}
 use Rattle.mds_migrate.specs.declared.outcome.MigrateFault.{MigrateFault}
-use Rattle.mds_migrate.specs.declared.outcome.MigrateFault.TheVariants.{Unavailable}
-use Rattle.mds_migrate.specs.Migrated.{Answered, HoldsFrom, IsMigrated, IsRefused, IsTaken, LeavesTaken, Step}
+use Rattle.mds_migrate.specs.declared.outcome.MigrateFault.TheVariants.{OtherSchema, Unavailable}
+use Rattle.mds_migrate.specs.Migrated.{Answered, HoldsFrom, IsMigrated, IsRefused, IsTaken, LeavesMigrated, LeavesTaken, Step, dating, forming, packing}
 
 -- ---- a step behind a question
 
@@ -69,6 +69,28 @@ module _ (step : Step) (old mid : State) (kept : HasCleanDisk mid → KeepsCommi
       let p = h clean holds_still in
       subst (IsRefused old new) (sym p.0) (keeps_then old mid new (kept early) p.1)
 
+-- ---- which of the steps it is
+
+module _ {old new : State} where
+  pub was_packing : IsTaken packing old new → IsMigrated old new
+  was_packing it = inl it
+
+  pub was_dating : IsTaken dating old new → IsMigrated old new
+  was_dating it = inr (inl it)
+
+  pub was_forming : IsTaken forming old new → IsMigrated old new
+  was_forming it = inr (inr it)
+
+module _ {old : State} where
+  pub left_packing : (left : Trees) → LeavesTaken packing old left → LeavesMigrated old left
+  left_packing left it = inl it
+
+  pub left_dating : (left : Trees) → LeavesTaken dating old left → LeavesMigrated old left
+  left_dating left it = inr (inl it)
+
+  pub left_forming : (left : Trees) → LeavesTaken forming old left → LeavesMigrated old left
+  left_forming left it = inr (inr it)
+
 -- ---- that it is a store, as what was asked tells
 
 module _ (old mid : State) (kept : HasCleanDisk mid → KeepsCommit old mid) (one : Survives old mid (λ _. ⊥)) where
@@ -97,9 +119,9 @@ module _ (old mid : State) (kept : HasCleanDisk mid → KeepsCommit old mid) (on
         bare = it.bare;
       }
 
-  pub is_formed : HoldsTablesOf current_layout old → (HasCleanDisk mid → AreCurrent old.committed.trees)
+  pub is_current : HoldsTablesOf current_layout old → (HasCleanDisk mid → AreCurrent old.committed.trees)
       → HasCleanDisk mid → IsTrue mid.is_open → IsCurrentStore old.committed
-  is_formed held are clean is_open =
+  is_current held are clean is_open =
       let it = are clean in
       record {
         store = record { schema = held (omega (arith, one.clean)) ((kept clean).was_open is_open); version = it.version };
@@ -115,8 +137,12 @@ module _ (old mid : State) (kept : HasCleanDisk mid → KeepsCommit old mid) (on
 -- ---- that it is none
 
 -- a database of one schema, which isn't a store of it, is none of any
-abbrev IsNone : Database → Type 0
+abbrev pub IsNone : Database → Type 0
 IsNone db = (IsStore db → ⊥) × (IsPackedStore db → ⊥) × (IsDailyStore db → ⊥) × (IsCurrentStore db → ⊥)
+
+-- so it is refused
+pub refused_as_none : (old new : State) → KeepsCommit old new → IsNone old.now → IsRefused old new OtherSchema
+refused_as_none old new kept none = (kept, none.0, none.1, none.2, none.3)
 
 pub none_of_1 : (db : Database) → db.schema ≡ schema_1 → (versions_said db.trees ≡ pos 1 ∷ [] → ⊥) → IsNone db
 none_of_1 db has other = (
@@ -142,8 +168,8 @@ none_of_3 db has other = (
   (λ is. not_of current_layout schema_3 db has (λ same. omega (arith, same)) is.store),
 )
 
-pub none_of_4 : (db : Database) → db.schema ≡ current_schema → (AreCurrent db.trees → ⊥) → IsNone db
-none_of_4 db has other = (
+pub none_of_current : (db : Database) → db.schema ≡ current_schema → (AreCurrent db.trees → ⊥) → IsNone db
+none_of_current db has other = (
   (λ store. not_of rows_layout current_schema db has (λ same. omega (arith, same)) store),
   (λ is. not_of packs_layout current_schema db has (λ same. omega (arith, same)) is.store),
   (λ is. not_of daily_layout current_schema db has (λ same. omega (arith, same)) is.store),

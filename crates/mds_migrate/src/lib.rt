@@ -16,6 +16,7 @@ mod packing;
 mod statements;
 mod step;
 
+pub use mds_pack_rows::CURRENT;
 pub use migrating::{migrate, migrate_all};
 pub use observing::{StepObserver, Unobserved};
 pub use outcome::{MigrateFault, Migrated};

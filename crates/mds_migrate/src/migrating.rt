@@ -4,8 +4,8 @@ ghost use Rattle.std.specs.Prelude.{◌≡◌, ◌⊎◌, false, IfErr, IfOk, Is
 ghost use Rattle.sqlite.specs.Held.{state};
 ghost use Rattle.sqlite.specs.State.{HasCleanDisk, KeepsCommit, Survives};
 ghost use Rattle.mds_tables.specs.Tables.{schema_1};
+ghost use Rattle.mds_pack_rows.specs.Current.{current_schema};
 ghost use Rattle.mds_pack_rows.specs.DailyTables.{schema_3};
-ghost use Rattle.mds_pack_rows.specs.FormTables.{schema_4};
 ghost use Rattle.mds_pack_rows.specs.PackTables.{schema_2};
 ghost use Rattle.mds_store.specs.CurrentStore.{IsCurrentStore};
 ghost use Rattle.mds_migrate.specs.Migrated.{Answered, IsRefused, LeavesMigrated, LeavesSteps, TakesOne, TakesSteps, TakesTwo};
@@ -16,13 +16,13 @@ use crate::observing::{StepObserver, Unobserved};
 use crate::outcome::{MigrateFault, Migrated};
 use crate::packing::Packing;
 use crate::step::take_step;
-use mds_pack_rows::has_schema;
+use mds_pack_rows::{CURRENT, has_schema};
 use mds_selects::is_version;
 use mds_store::{are_current, are_daily, are_packed};
 use sqlite::{Alter, Connection};
 use std::alloc::Global;
 
-/// Takes a store to schema 4, one step after another. A refused step ends it, and the earlier steps stay done. If a step was done before a
+/// Takes a store to the current schema, one step after another. A refused step ends it, and the earlier steps stay done. If a step was done before a
 /// failure, the answer is U1. A crash leaves the store as it was, or what some of the steps make of it, whole. Each step
 /// begins with a call of the observer.
 pub fn migrate_all<S: Alter, O: StepObserver>(
@@ -93,8 +93,8 @@ fn next_step<S: Alter, O: StepObserver>(
         return Err(MigrateFault::Unavailable);
     }
     // decides: which step does a migration take?
-    let is_fourth = has_schema(conn.schema(), 4);
-    if is_fourth {
+    let is_current = has_schema(conn.schema(), CURRENT);
+    if is_current {
         return if_current(conn);
     }
     let is_third = has_schema(conn.schema(), 3);
@@ -113,11 +113,11 @@ fn next_step<S: Alter, O: StepObserver>(
     if_first(alloc, conn, observer)
 }
 
-/// The answer if the tables are those of schema 4: the store is current, or it is no store (U3).
+/// The answer if the tables are those of the current schema: the store is current, or it is no store (U3).
 fn if_current<S: Alter>(conn: &mut Connection<S>) -> Result<Migrated, MigrateFault>
     requires mode { conn.old.in_transaction ≡ false }
     requires settled { IsTrue (state S.Store conn.old).is_open → (state S.Store conn.old).now ≡ (state S.Store conn.old).committed }
-    requires schema { (state S.Store conn.old).now.schema ≡ schema_4 }
+    requires schema { (state S.Store conn.old).now.schema ≡ current_schema }
     ensures done { IfOk result (λ it. HasCleanDisk (state S.Store conn.new) → Answered (state S.Store conn.old) (state S.Store conn.new) it) }
     ensures err { IfErr result (λ e. HasCleanDisk (state S.Store conn.new) → IsRefused (state S.Store conn.old) (state S.Store conn.new) e) }
     ensures mode { conn.new.in_transaction ≡ false }

@@ -2,7 +2,7 @@
 
 /// Shows how far a migration is. It has no clauses, as what becomes of the store doesn't depend on it.
 pub trait StepObserver {
-    /// A step begins, which leads to this schema: 2, 3 or 4. It may still fail.
+    /// A step begins, which leads to this schema, from 2 up to the current one. It may still fail.
     fn begin(&mut self, schema: u8);
 }
 

@@ -11,7 +11,7 @@ use sqlite::Error;
 pub enum Migrated {
     /// The store is now one of the next schema.
     Done,
-    /// The store was one of schema 4 already.
+    /// The store was one of the current schema already.
     AlreadyCurrent,
 }
 

@@ -1,24 +1,16 @@
 -- A database of one schema is no store of another, and what holds which tables.
-use Rattle.std.proofs.Common.{◌≡◌, ◌≢◌, length, IsTrue, sym, ap, ◌∙◌, arith}
+use Rattle.std.proofs.Common.{◌≡◌, ◌≢◌, length, IsTrue, sym, ap, ◌∙◌}
 use Rattle.sqlite.specs.Effect.{Database}
 use Rattle.sqlite.specs.Schema.{Schema}
 use Rattle.sqlite.specs.State.{State}
-use Rattle.mds_tables.specs.Layouts.{Layout, rows_layout}
-use Rattle.mds_tables.specs.Stores.{HoldsTablesOf, IsStore, IsStoreOf}
-use Rattle.mds_tables.specs.Tables.{schema_1, schema_with, tables_with}
-use Rattle.mds_pack_rows.specs.PackTables.{schema_2}
-use Rattle.mds_pack_rows.specs.PacksLayout.{packs_layout}
+use Rattle.mds_tables.specs.Layouts.{Layout}
+use Rattle.mds_tables.specs.Stores.{HoldsTablesOf, IsStoreOf}
+use Rattle.mds_tables.specs.Tables.{schema_with, tables_with}
 
 -- a store has as many tables as its layout says
 pub not_of : (layout : Layout) (schema : Schema) (db : Database) → db.schema ≡ schema → length schema.tables ≢ length (tables_with layout.more)
     → ¬ IsStoreOf layout db
 not_of layout schema db has differ store = differ (ap (λ (s : Schema). length s.tables) (sym has ∙ store.schema))
-
-pub not_first : (db : Database) → db.schema ≡ schema_2 → ¬ IsStore db
-not_first db has = not_of rows_layout schema_2 db has (λ same. omega (arith, same))
-
-pub not_second : (db : Database) → db.schema ≡ schema_1 → ¬ IsStoreOf packs_layout db
-not_second db has = not_of packs_layout schema_1 db has (λ same. omega (arith, same))
 
 -- a connection in no transaction holds the tables that it sees
 pub tables_seen : (layout : Layout) (s : State) → (IsTrue s.is_open → s.now ≡ s.committed) → s.now.schema ≡ schema_with layout.more

@@ -5,7 +5,7 @@ use Rattle.sqlite.specs.Schema.{Schema}
 use Rattle.sqlite.specs.Table.{Table}
 use Rattle.sqlite_schema.specs.declared.schema.Action.TheVariants.{NoAction}
 use Rattle.sqlite_schema.specs.declared.schema.Reference.{Reference}
-use Rattle.mds_tables.specs.Tables.{More, form_tree, key_index, number, schema_with, table_of, tables_with, text}
+use Rattle.mds_tables.specs.Tables.{More, form_tree, key_index, no_more, number, schema_with, table_of, tables_with, text}
 use Rattle.mds_pack_rows.specs.DailyTables.{daily_then}
 
 abbrev pub form_key : List ℕ
@@ -28,16 +28,24 @@ form_table = record (table_of (codes "mds_form") form_tree
     ∷ [])
     form_key) { references = to_pack ∷ [] }
 
--- what follows mds_daydetail
-abbrev pub forms : More
-forms = record {
-  tables = form_table ∷ [];
-  indexes = key_index (codes "sqlite_autoindex_mds_form_1") form_tree form_key ∷ [];
+-- mds_form and the index of its key, and then more
+abbrev pub forms_then : More → More
+forms_then rest = record {
+  tables = form_table ∷ rest.tables;
+  indexes = key_index (codes "sqlite_autoindex_mds_form_1") form_tree form_key ∷ rest.indexes;
 }
 
--- what follows the tables that every schema has
+-- what follows mds_daydetail
+abbrev pub forms : More
+forms = forms_then no_more
+
+-- what follows the tables that every schema has, with more after mds_form
+abbrev pub formed_then : More → More
+formed_then rest = daily_then (forms_then rest)
+
+-- with nothing after it
 abbrev pub formed : More
-formed = daily_then forms
+formed = formed_then no_more
 
 abbrev pub tables_4 : List Table
 tables_4 = tables_with formed

@@ -4,17 +4,16 @@ use Rattle.std.specs.Prelude.{ℕ, zero, suc, ◌+◌, List, [], ◌∷◌, code
 use Rattle.sqlite.specs.Schema.{Schema}
 use Rattle.sqlite.specs.Table.{Table}
 use Rattle.sqlite_schema.specs.declared.schema.Index.{Index}
-use Rattle.mds_tables.specs.Tables.{key_index}
+use Rattle.mds_tables.specs.Tables.{key_index, schema_table, schema_tree}
 use Rattle.mds_pack_rows.specs.Current.{current_schema}
-use Rattle.mds_pack_rows.specs.FormTables.{form_key, form_table}
 
--- the table of a number, from 0 on; the last one if there are not so many
+-- the table of a number, from 0 on; the first one if there are not so many
 abbrev pub nth_table : ℕ → Table
-nth_table n = slice_index_or current_schema.tables n form_table
+nth_table n = slice_index_or current_schema.tables n schema_table
 
 -- the index of its key
 abbrev pub nth_index : ℕ → Index
-nth_index n = slice_index_or current_schema.indexes n (key_index (codes "sqlite_autoindex_mds_form_1") 20 form_key)
+nth_index n = slice_index_or current_schema.indexes n (key_index (codes "sqlite_autoindex_mds_schema_1") schema_tree (1 ∷ []))
 
 -- so many tables from a number on
 abbrev pub tables_from : ℕ → ℕ → List Table

@@ -11,6 +11,15 @@ ghost use Rattle.mds_pack_rows.specs.Schemas.{indexes_from, nth_index, nth_schem
 use mds_tables::{are_names, are_to_head, is_key_index, is_keyed, is_plain};
 use sqlite_schema::schema::{Action, Index, Kind, Reference, Schema, Table};
 
+/// The number of the current schema: that of the stores that are made, and in which a migration ends.
+pub const CURRENT: u8 = 4;
+
+/// The same, as mds_schema says it.
+pub const CURRENT_VERSION: i64 = CURRENT as i64;
+
+/// How many tables it has.
+pub const CURRENT_TABLES: usize = CURRENT as usize + 7;
+
 /// Whether this is the table of the number of the schema.
 fn is_schema(table: &Table) -> bool
     ensures { IsTrue result ↔ (table.now ≡ schema_table) }

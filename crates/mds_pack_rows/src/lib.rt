@@ -2,8 +2,8 @@
 //! a body. A row of mds_daydetail has details of a day.
 //!
 //! It decides which versions share a row (`grouping.rt`), when a row's body is replaced (`putting.rt`), and which rows go in eight at a
-//! time (`eights.rt`). It defines the layouts of schemas 2 to 4, and makes and recognizes the tables of schemas 2 and 3. Any tables may
-//! follow those that it writes.
+//! time (`eights.rt`). It defines the layouts from schema 2 on, and makes and recognizes the tables of each schema. Any tables may
+//! follow those that it writes. Which schema is the current one is said in `known.rt` and `specs/Current.antt` alone.
 //! Callers: `mds_commit` for commits and the books of days, `mds_migrate` for its steps, `mds_store` to recognize old stores.
 //! Must not change: the tables, which existing stores have. A commit and a migration put rows by the same functions, so a migrated row is
 //! the one that an import would have put.
@@ -23,6 +23,6 @@ pub use bodies::{blob_at, has_some, readings_for, unpack_for, unpack_whole};
 pub use details::{DetailTable, put_details};
 pub use eights::put_days;
 pub use grouping::put_day;
-pub use known::has_schema;
+pub use known::{CURRENT, CURRENT_TABLES, CURRENT_VERSION, has_schema};
 pub use making::make_table;
 pub use statements::packs_of_day;

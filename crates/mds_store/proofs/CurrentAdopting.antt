@@ -126,8 +126,8 @@ packed trees says empty = record { version = says; unversioned = empty }
 pub daily : (trees : Trees) → versions_said trees ≡ pos 3 ∷ [] → AreBare trees → AreDaily trees
 daily trees says bare = record { version = says; bare = bare }
 
-pub formed : (trees : Trees) → versions_said trees ≡ pos 4 ∷ [] → AreBare trees → AreCurrent trees
-formed trees says bare = record { version = says; bare = bare }
+pub current : (trees : Trees) → versions_said trees ≡ pos current_layout.number ∷ [] → AreBare trees → AreCurrent trees
+current trees says bare = record { version = says; bare = bare }
 
 -- ---- that it is one, or none
 
@@ -139,27 +139,27 @@ module _ (layout : Layout) (old new : State) (held : HoldsTablesOf layout old) (
       let same = settled ((kept clean).was_open is_open) in
       other (subst (λ (db : Database). AreThese db.trees) same these)
 
--- a store of schema 2 has these tables, and so has one of schema 3 or 4
+-- a store of schema 2 has these tables, and so has one of a later schema
 pub of_pack : (db : Database) → IsPackedStore db → ArePacked db.trees
 of_pack db is = record { version = is.store.version; unversioned = is.unversioned }
 
 pub of_daily : (db : Database) → IsDailyStore db → AreDaily db.trees
 of_daily db is = record { version = is.store.version; bare = is.bare }
 
-pub of_formed : (db : Database) → IsCurrentStore db → AreCurrent db.trees
-of_formed db is = record { version = is.store.version; bare = is.bare }
+pub of_current : (db : Database) → IsCurrentStore db → AreCurrent db.trees
+of_current db is = record { version = is.store.version; bare = is.bare }
 
-pub is_formed_adopted : (old new : State) → HoldsTablesOf current_layout old → Survives old new (λ _. ⊥) → (HasCleanDisk new → KeepsCommit old new)
+pub is_current_adopted : (old new : State) → HoldsTablesOf current_layout old → Survives old new (λ _. ⊥) → (HasCleanDisk new → KeepsCommit old new)
     → HasCleanDisk new → AreOpen old new → AreCurrent old.committed.trees → IsCurrentAdopted old new
-is_formed_adopted old new held survives kept clean are_open are = record {
+is_current_adopted old new held survives kept clean are_open are = record {
   adopted = is_adopted current_layout old new held survives kept clean are_open are.version;
   bare = are.bare;
 }
 
 -- and so it stays
-pub still_formed : (old new : State) → HoldsTablesOf current_layout old → Survives old new (λ _. ⊥) → (HasCleanDisk new → KeepsCommit old new)
+pub still_current : (old new : State) → HoldsTablesOf current_layout old → Survives old new (λ _. ⊥) → (HasCleanDisk new → KeepsCommit old new)
     → (HasCleanDisk new → AreCurrent old.committed.trees) → HasCleanDisk new → IsTrue new.is_open → IsCurrentStore new.committed
-still_formed old new held survives kept are clean is_open = record {
+still_current old new held survives kept are clean is_open = record {
   store = still_holds current_layout old new held survives kept (λ clean. (are clean).version) clean is_open;
   bare = subst (λ (db : Database). AreBare db.trees) (sym ((kept clean).committed is_open)) (are clean).bare;
 }

@@ -13,7 +13,7 @@ use Rattle.mds_pack_rows.specs.Current.{current_layout, current_schema}
 use Rattle.mds_commit.specs.FormPutting.{GainsForms}
 use Rattle.mds_store.specs.Daily.{AreBare}
 use Rattle.mds_store.specs.CurrentStore.{AreCurrent, HoldsCurrent, IsCurrentStore}
-use Rattle.mds_store.proofs.CurrentAdopting.{of_formed}
+use Rattle.mds_store.proofs.CurrentAdopting.{of_current}
 
 pub as_store : {s : State} → HoldsCurrent s → HoldsOf current_layout s
 as_store holds clean is_open = (holds.committed clean is_open).store
@@ -28,7 +28,7 @@ pub of_open : (s : State) → IsLive s → (IsTrue s.is_open → (trees : Trees)
 of_open s live settled holds = record {
   committed = λ clean _. (holds clean).1;
   left = λ clean trees may.
-      let it = holds clean in subst AreCurrent (sym (settled it.0 trees may)) (of_formed s.committed it.1);
+      let it = holds clean in subst AreCurrent (sym (settled it.0 trees may)) (of_current s.committed it.1);
   sound = λ clean trees may.
       let it = holds clean in
       let obeys : IsSound current_schema s.committed.trees = subst (λ schema. IsSound schema s.committed.trees) it.1.store.schema (live it.0).1 in
@@ -39,18 +39,18 @@ was_clean : {old new : State} (Commits : Trees → Type 0) → Survives old new 
 was_clean Commits survives clean = omega (arith, survives.clean, clean)
 
 -- what was not changed is what it was
-stays_formed : (old new : State) → HoldsCurrent old → HasCleanDisk old → KeepsCommit old new → IsTrue new.is_open → IsCurrentStore new.committed
-stays_formed old new holds clean kept is_open =
+stays_current : (old new : State) → HoldsCurrent old → HasCleanDisk old → KeepsCommit old new → IsTrue new.is_open → IsCurrentStore new.committed
+stays_current old new holds clean kept is_open =
     subst IsCurrentStore (sym (kept.committed is_open)) (holds.committed clean (kept.was_open is_open))
 
 -- a question changes nothing
-pub formed_on : {A E : Type 0} {old new : State} {r : Result A E} {Tells : Trees → A → Type 0} → HoldsCurrent old
+pub current_on : {A E : Type 0} {old new : State} {r : Result A E} {Tells : Trees → A → Type 0} → HoldsCurrent old
     → Answers (HoldsOf current_layout) old new r Tells → HoldsCurrent new
-formed_on {old = old} {new = new} holds answered =
+current_on {old = old} {new = new} holds answered =
     let store = as_store holds in
     let survives = answered.survives store in
     record {
-      committed = λ clean. stays_formed old new holds (was_clean _ survives clean) (answered.kept clean store);
+      committed = λ clean. stays_current old new holds (was_clean _ survives clean) (answered.kept clean store);
       left = λ clean trees may. elim (survives.crash clean trees may) [
         | inl was ↦ holds.left (was_clean _ survives clean) trees was
         | inr none ↦ absurd none
@@ -73,12 +73,12 @@ module _ {A E : Type 0} {old new : State} {additions : Additions} (holds : Holds
     store = made.store;
     bare = still_bare old.committed.trees new.committed.trees additions made.rows (holds.committed clean made.was_open).bare;
   }
-  committed (Err e) clean made kept is_open = stays_formed old new holds clean kept is_open
+  committed (Err e) clean made kept is_open = stays_current old new holds clean kept is_open
 
   -- it is made, or nothing is changed
-  pub formed_with : (r : Result A E) → (HasCleanDisk new → OnOk r (CommitsOf current_layout GainsForms old new additions))
+  pub current_with : (r : Result A E) → (HasCleanDisk new → OnOk r (CommitsOf current_layout GainsForms old new additions))
       → (HasCleanDisk new → OnErr r (KeepsCommit old new)) → HoldsCurrent new
-  formed_with r ok err = record {
+  current_with r ok err = record {
     committed = λ clean. committed r (was_clean _ survives clean) (ok clean) (err clean);
     left = λ clean trees may. elim (survives.crash clean trees may) [
       | inl was ↦ holds.left (was_clean _ survives clean) trees was

@@ -2,6 +2,7 @@ pub mod Adopting
 pub mod Ascending
 pub mod CurrentAdopting
 pub mod CurrentKeeping
+pub mod Earlier
 pub mod Keeping
 pub mod ListTexts
 pub mod Listed

@@ -10,9 +10,9 @@ use Rattle.mds_store.specs.Starting.{IsAdopted}
 use Rattle.mds_store.specs.Daily.{AreBare, IsDailyStore}
 use Rattle.mds_store.specs.Packed.{IsPackedStore}
 
--- mds_schema says 4, and neither a version nor details of a stream have a row of their own
+-- mds_schema says the number of the current schema, and neither a version nor details of a stream have a row of their own
 pub record AreCurrent (trees : Trees) : Type 0 where
-  pub version : versions_said trees ≡ pos 4 ∷ []
+  pub version : versions_said trees ≡ pos current_layout.number ∷ []
   pub bare : AreBare trees
 
 -- a store of the current schema
@@ -20,8 +20,8 @@ pub record IsCurrentStore (db : Database) : Type 0 where
   pub store : IsStoreOf current_layout db
   pub bare : AreBare db.trees
 
--- While the disk is honest and the connection open, what is committed is a store of schema 4. What a crash may leave says 4, has
--- no row of those two kinds, and obeys schema 4, open or not. So the next open finds a store there.
+-- While the disk is honest and the connection open, what is committed is a store of the current schema. What a crash may leave says
+-- its number, has no row of those two kinds, and obeys the schema, open or not. So the next open finds a store there.
 pub record HoldsCurrent (s : State) : Type 0 where
   pub committed : HasCleanDisk s → IsTrue s.is_open → IsCurrentStore s.committed
   pub left : HasCleanDisk s → (trees : Trees) → s.may_leave trees → AreCurrent trees
@@ -31,7 +31,7 @@ pub record HoldsCurrent (s : State) : Type 0 where
 abbrev pub IsEarlierStore : Database → Type 0
 IsEarlierStore db = IsStore db ⊎ (IsPackedStore db ⊎ IsDailyStore db)
 
--- The database was a store of schema 4, and keeps what it kept.
+-- The database was a store of the current schema, and keeps what it kept.
 pub record IsCurrentAdopted (old new : State) : Type 0 where
   pub adopted : IsAdopted current_layout old new
   pub bare : AreBare old.committed.trees

@@ -17,7 +17,7 @@ use sqlite::Alter;
 /// It keeps the World that the rows of its tables name. It is honest while its disk is, and sound while its connection is open too. A
 /// crash may leave any World named by tables that the library's store may leave. While it is sound, what is committed is a store that
 /// `adopt` takes. While it is honest, any tables that a crash may leave are one too, even if a fault shut the connection. They obey
-/// schema 4, say 4, and have no row that goes unseen.
+/// the current schema, say its number, and have no row that goes unseen.
 pub fn a_keeper_is_its_tables<S: Alter>(_keeper: &PackKeeper<S>)
     ensures world { (⟦<PackKeeper<S> as Keeper>⟧.kept _keeper.now).world ≡ world_kept current_layout (state S.Store _keeper.now.conn) }
     ensures honest { (⟦<PackKeeper<S> as Keeper>⟧.kept _keeper.now).honest ↔ HasCleanDisk (state S.Store _keeper.now.conn) }

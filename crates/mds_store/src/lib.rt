@@ -1,6 +1,6 @@
-//! A store of schema 4 in the tables of an SQL database: its keeper, how it is made (`create`) and recognized (`adopt`).
+//! A store of the current schema in the tables of an SQL database: its keeper, how it is made (`create`) and recognized (`adopt`).
 //!
-//! It decides which database is a store, and which fault any other one has: U2 for schemas 1 to 3, else U3 (`starting.rt`, `fault.rt`).
+//! It decides which database is a store, and which fault any other one has: U2 for earlier schemas, else U3 (`starting.rt`, `fault.rt`).
 //! It answers for holidays, substitution jobs and accumulations, whatever tables follow those that every schema has (`querying.rt`).
 //! Callers: `mdstore` makes and opens stores with it, and `mds_trials` does so in memory. `mds_store_runs` runs over `PackKeeper`,
 //! `mds_migrate` asks what schema a store says, and `mds_full` re-exports it.

@@ -23,7 +23,7 @@ use mds_terms::{Day, Details, Event, Stream};
 use sqlite::{Alter, Connection};
 use std::alloc::Global;
 
-/// Keeps a World in the tables of schema 4. The versions of a day that have one update are one row, and any other fact is one row. Only
+/// Keeps a World in the tables of the current schema. The versions of a day that have one update are one row, and any other fact is one row. Only
 /// the unit of a day's heads has a row of its own.
 #[derive(Drop)]
 pub struct PackKeeper<S: Alter> {

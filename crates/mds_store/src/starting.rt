@@ -24,7 +24,7 @@ use crate::fault::{StoreFault, is_empty};
 use crate::old_rows::{detail_rows, slot_rows};
 use crate::pack_keeper::PackKeeper;
 use mds_commit::make_tables;
-use mds_pack_rows::has_schema;
+use mds_pack_rows::{CURRENT, CURRENT_VERSION, has_schema};
 use mds_selects::is_version;
 use mds_tables::ready;
 use sqlite::{Alter, Connection, Error, Row};
@@ -64,7 +64,7 @@ pub fn create<S: Alter>(
     }
 }
 
-/// Adopts a database that is a store of schema 4. It keeps the World that its rows name, no matter who wrote them. A database with
+/// Adopts a database that is a store of the current schema. It keeps the World that its rows name, no matter who wrote them. A database with
 /// rows in mds_version or mds_detail is refused, since they would go unseen (U3). A store of an earlier schema has to be migrated
 /// first (U2). On a refusal the connection is returned, and nothing was changed. One that was in a transaction comes back as it was,
 /// and any other is in none. Unavailable only if the store failed or the limit of steps was reached, with that error (U1). The limit
@@ -102,8 +102,8 @@ pub fn adopt<S: Alter>(
         return Err(refusal_of_third(conn));
     }
     // decides: U3: a database is no store
-    let is_fourth = has_schema(conn.schema(), 4);
-    if !is_fourth {
+    let is_current = has_schema(conn.schema(), CURRENT);
+    if !is_current {
         return Err((StoreFault::OtherSchema, conn));
     }
     // decides: U1: a store can't be made or adopted
@@ -114,8 +114,8 @@ pub fn adopt<S: Alter>(
     }
 }
 
-/// Whether mds_schema says 4 and nothing else, and neither a version nor details of a stream have a row of their own. An error is
-/// the library's: the store failed with a cause, or the limit of steps was reached.
+/// Whether mds_schema says the number of the current schema and nothing else, and neither a version nor details of a stream have a row
+/// of their own. An error is the library's: the store failed with a cause, or the limit of steps was reached.
 pub fn are_current<S: Alter>(conn: &mut Connection<S>) -> Result<bool, Error>
     requires { conn.old.in_transaction ≡ false }
     ensures answers { Answers (HoldsTablesOf current_layout) (state S.Store conn.old) (state S.Store conn.new) result
@@ -124,8 +124,8 @@ pub fn are_current<S: Alter>(conn: &mut Connection<S>) -> Result<bool, Error>
         → IfErr result (HasFailed (state S.Store conn.old) (state S.Store conn.new)) }
 {
     // decides: U3: a database is no store
-    let says_4 = is_version(conn, 4)?;
-    if !says_4 {
+    let says_current = is_version(conn, CURRENT_VERSION)?;
+    if !says_current {
         return Ok(false);
     }
     are_bare(conn)
@@ -226,7 +226,7 @@ fn refusal_of_first<S: Alter>(conn: Connection<S>) -> (StoreFault, Connection<S>
     ensures survives { Survives (state S.Store conn) (state S.Store result.1) (λ _. ⊥) }
 {
     let mut conn = conn;
-    // decides: U2: a store of schema 1, 2 or 3
+    // decides: U2: a store of an earlier schema
     match is_version(&mut conn, 1) {
         Ok(true) => (StoreFault::EarlierSchema, conn),
         Ok(false) => (StoreFault::OtherSchema, conn),
@@ -246,7 +246,7 @@ fn refusal_of_second<S: Alter>(conn: Connection<S>) -> (StoreFault, Connection<S
     ensures survives { Survives (state S.Store conn) (state S.Store result.1) (λ _. ⊥) }
 {
     let mut conn = conn;
-    // decides: U2: a store of schema 1, 2 or 3
+    // decides: U2: a store of an earlier schema
     match are_packed(&mut conn) {
         Ok(true) => (StoreFault::EarlierSchema, conn),
         Ok(false) => (StoreFault::OtherSchema, conn),
@@ -266,7 +266,7 @@ fn refusal_of_third<S: Alter>(conn: Connection<S>) -> (StoreFault, Connection<S>
     ensures survives { Survives (state S.Store conn) (state S.Store result.1) (λ _. ⊥) }
 {
     let mut conn = conn;
-    // decides: U2: a store of schema 1, 2 or 3
+    // decides: U2: a store of an earlier schema
     match are_daily(&mut conn) {
         Ok(true) => (StoreFault::EarlierSchema, conn),
         Ok(false) => (StoreFault::OtherSchema, conn),

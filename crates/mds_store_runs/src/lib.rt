@@ -1,4 +1,4 @@
-//! Runs of the machine over a store of schema 4.
+//! Runs of the machine over a store of the current schema.
 //!
 //! It decides nothing of its own: `run_packs` is `mds_service::run` over a `PackKeeper`. Its contract says in the library's words what such
 //! a run promises of the tables, without any ghost of a keeper.

@@ -15,7 +15,7 @@ use sqlite::{Alter, Connection};
 use std::io;
 use std::io::Write;
 
-/// The steps: a store (schema 4) is made or adopted, or an SQL text is run. Any other step is a migration.
+/// The steps: a store is made or adopted, or an SQL text is run. Any other step is a migration.
 const CREATE: u8 = b'c';
 
 const ADOPT: u8 = b'a';

@@ -105,7 +105,7 @@ impl Name {
         match self {
             Name::Check => "Checks a file, and prints a line for each day or accumulation",
             Name::Init => "Makes a store in a new file",
-            Name::Migrate => "Migrates a store of an earlier schema to schema 4",
+            Name::Migrate => "Migrates a store of an earlier schema to that of this version",
             Name::Import => "Adds the data of files to a store",
             Name::Substitute => {
                 "Fills in readings of a day by a substitution job, and keeps the job"

@@ -31,7 +31,7 @@ pub enum Words<'a> {
         store: &'a str,
         has_sums: bool,
     },
-    /// Migrates the store of an earlier schema in the named file to schema 4.
+    /// Migrates the store of an earlier schema in the named file to the current one.
     Migrate {
         store: &'a str,
     },

@@ -112,8 +112,8 @@ fn text_of(cause: &Cause) -> &'static str {
         Cause::LogAlone => "its log is there without the file",
         Cause::NoSums => "the file was made without sums",
         Cause::NotEmpty => "not empty",
-        Cause::EarlierSchema => "a store of schema 1, 2 or 3",
-        Cause::OtherTables => "its tables aren't those of a store of schema 4",
+        Cause::EarlierSchema => "a store of an earlier schema",
+        Cause::OtherTables => "its tables aren't those of a store of this schema",
         _ => "no cause is known",
     }
 }

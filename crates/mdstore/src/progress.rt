@@ -1,7 +1,7 @@
 //! How far a long run is, on a terminal.
 
 use crate::terminal::has_terminal;
-use mds_migrate::StepObserver;
+use mds_migrate::{CURRENT, StepObserver};
 
 /// A line on standard error that is written over, if that is a terminal.
 #[derive(Clone, Copy)]
@@ -27,7 +27,7 @@ impl Progress {
     /// Shows to which schema a step of a migration leads.
     pub(crate) fn show_step(self, rt: &HostRuntime, schema: u8) {
         if self.is_shown {
-            let _ = eprint!(rt; "\rstep to schema {schema} of 4 ");
+            let _ = eprint!(rt; "\rstep to schema {schema} of {CURRENT} ");
         }
     }
 

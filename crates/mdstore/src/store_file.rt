@@ -81,7 +81,7 @@ pub(crate) fn in_store<T: Task + Drop>(
     in_file(rt, path, Adopt { task }, why)
 }
 
-/// Migrates the store at a path, which isn't made if it is missing, to schema 4. A store of that schema is left as it is.
+/// Migrates the store at a path, which isn't made if it is missing, to the current schema. A store of that schema is left as it is.
 pub(crate) fn migrate_store(rt: &HostRuntime, path: &str, why: &mut Why) -> Outcome {
     in_file(rt, path, Migrate, why)
 }
@@ -201,7 +201,7 @@ impl<T: Task + Drop> DatabaseTask for Adopt<T> {
     }
 }
 
-/// Migrates the store that it is to schema 4.
+/// Migrates the store that it is to the current schema.
 #[derive(Drop)]
 struct Migrate;
 

@@ -5,7 +5,7 @@ use Rattle.sqlite.specs.State.{HasCleanDisk}
 use Rattle.mds_pack_rows.specs.Current.{current_layout}
 use Rattle.mds_pack_rows.proofs.TwoSchemas.{tables_seen}
 use Rattle.mds_store.specs.CurrentStore.{AreCurrent}
-use Rattle.mds_migrate.proofs.Asking.{is_formed, isnt_seen, none_of_4}
+use Rattle.mds_migrate.proofs.Asking.{is_current, isnt_seen, none_of_current, refused_as_none}
 use Rattle.mds_migrate.proofs.migrating.if_current.Goals as goal
 
 pub returns-clause-done : goal.returns-clause-done
@@ -16,7 +16,7 @@ returns-clause-done g c clean =
     let held = tables_seen current_layout old c.requires.settled c.requires.schema in
     let are : HasCleanDisk new → AreCurrent old.committed.trees = λ clean. let it = asked.found clean held in search rules in
     let are_open = asked.open clean held in (
-      is_formed old new (λ clean. asked.kept clean held) (asked.survives held) held are clean are_open.is_open,
+      is_current old new (λ clean. asked.kept clean held) (asked.survives held) held are clean are_open.is_open,
       are_open,
       asked.kept clean held,
     )
@@ -35,9 +35,9 @@ returns-then-not-is_current-clause-err g c clean =
     let asked = c.in_ok-is_current.ensures.answers in
     let held = tables_seen current_layout old c.requires.settled c.requires.schema in
     let other : ¬ AreCurrent old.committed.trees = let it = asked.found clean held in search rules in
-    let none = none_of_4 old.now c.requires.schema
+    let none = none_of_current old.now c.requires.schema
     (isnt_seen old new (λ clean. asked.kept clean held) (asked.survives held) AreCurrent clean c.requires.settled other (asked.open clean held).is_open) in
-    (asked.kept clean held, none.0, none.1, none.2, none.3)
+    refused_as_none old new (asked.kept clean held) none
 
 pub returns-then-not-is_current-clause-mode : goal.returns-then-not-is_current-clause-mode
 returns-then-not-is_current-clause-mode g c = c.are_current.ensures.answers.mode

@@ -1,4 +1,4 @@
-use Rattle.std.proofs.Common.{IsTrue, inr, rules, true, ◌≡◌}
+use Rattle.std.proofs.Common.{IsTrue, rules, true, ◌≡◌}
 use Rattle.std.proofs.lemmas.Result.{err_from_is_err_and}
 use Rattle.sqlite.specs.Held.{state}
 use Rattle.sqlite.specs.State.{HasCleanDisk, KeepsCommit}
@@ -8,7 +8,7 @@ use Rattle.mds_pack_rows.proofs.TwoSchemas.{tables_seen}
 use Rattle.mds_store.specs.Daily.{AreDaily, IsDailyStore}
 use Rattle.mds_store.proofs.CurrentAdopting.{is_so}
 use Rattle.mds_migrate.specs.Migrated.{LeavesMigrated, forming}
-use Rattle.mds_migrate.proofs.Asking.{answered_since, holds_still, is_daily, isnt_seen, leaves_since, none_of_3, refused_since}
+use Rattle.mds_migrate.proofs.Asking.{answered_since, holds_still, is_daily, isnt_seen, leaves_since, left_forming, none_of_3, refused_as_none, refused_since, was_forming}
 use Rattle.mds_migrate.proofs.Taking.{leaves_none}
 use Rattle.mds_migrate.proofs.migrating.if_daily.Given.{Over}
 use Rattle.mds_migrate.proofs.migrating.if_daily.Goals as goal
@@ -41,7 +41,7 @@ returns-clause-done g c =
     let kept : HasCleanDisk mid → KeepsCommit old mid = λ clean. asked.kept clean (held g at) in
     let one = asked.survives (held g at) in
     let still = holds_still forming old mid kept one (store g at c.if-not-is_daily.false) in
-    answered_since forming old mid kept one (store g at c.if-not-is_daily.false) new (λ it. inr (inr it)) (c.take_step.ensures.survives still) c.take_step.result c.take_step.ensures.done
+    answered_since forming old mid kept one (store g at c.if-not-is_daily.false) new was_forming (c.take_step.ensures.survives still) c.take_step.result c.take_step.ensures.done
 
 pub returns-clause-err : goal.returns-clause-err
 returns-clause-err g c =
@@ -65,7 +65,7 @@ returns-clause-survives g c =
     let kept : HasCleanDisk mid → KeepsCommit old mid = λ clean. asked.kept clean (held g at) in
     let one = asked.survives (held g at) in
     let still = holds_still forming old mid kept one (store g at c.if-not-is_daily.false) in
-    leaves_since forming old mid kept one (store g at c.if-not-is_daily.false) (LeavesMigrated old) (λ left it. inr (inr it)) new (c.take_step.ensures.survives still)
+    leaves_since forming old mid kept one (store g at c.if-not-is_daily.false) (LeavesMigrated old) left_forming new (c.take_step.ensures.survives still)
 
 pub returns-then-not-is_daily-clause-err : goal.returns-then-not-is_daily-clause-err
 returns-then-not-is_daily-clause-err g c clean =
@@ -76,7 +76,7 @@ returns-then-not-is_daily-clause-err g c clean =
     let other : ¬ AreDaily old.committed.trees = let it = asked.found clean held in search rules in
     let none = none_of_3 old.now c.requires.schema
     (isnt_seen old new (λ clean. asked.kept clean held) (asked.survives held) AreDaily clean c.requires.settled other (asked.open clean held).is_open) in
-    (asked.kept clean held, none.0, none.1, none.2, none.3)
+    refused_as_none old new (asked.kept clean held) none
 
 pub returns-then-not-is_daily-clause-mode : goal.returns-then-not-is_daily-clause-mode
 returns-then-not-is_daily-clause-mode g c = c.are_daily.ensures.answers.mode

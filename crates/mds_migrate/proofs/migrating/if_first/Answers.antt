@@ -1,4 +1,4 @@
-use Rattle.std.proofs.Common.{IsTrue, [], inl, pos, rules, true, ◌∷◌, ◌≡◌}
+use Rattle.std.proofs.Common.{IsTrue, [], pos, rules, true, ◌∷◌, ◌≡◌}
 use Rattle.std.proofs.lemmas.Result.{err_from_is_err_and}
 use Rattle.sqlite.specs.Held.{state}
 use Rattle.sqlite.specs.State.{HasCleanDisk, KeepsCommit}
@@ -7,7 +7,7 @@ use Rattle.mds_tables.specs.Stores.{HoldsTablesOf, IsStore, versions_said}
 use Rattle.mds_pack_rows.proofs.TwoSchemas.{tables_seen}
 use Rattle.mds_store.proofs.CurrentAdopting.{is_so}
 use Rattle.mds_migrate.specs.Migrated.{LeavesMigrated, packing}
-use Rattle.mds_migrate.proofs.Asking.{answered_since, holds_still, is_first, isnt_seen, leaves_since, none_of_1, refused_since}
+use Rattle.mds_migrate.proofs.Asking.{answered_since, holds_still, is_first, isnt_seen, leaves_since, left_packing, none_of_1, refused_as_none, refused_since, was_packing}
 use Rattle.mds_migrate.proofs.Taking.{leaves_none}
 use Rattle.mds_migrate.proofs.migrating.if_first.Given.{Over}
 use Rattle.mds_migrate.proofs.migrating.if_first.Goals as goal
@@ -40,7 +40,7 @@ returns-clause-done g c =
     let kept : HasCleanDisk mid → KeepsCommit old mid = λ clean. asked.kept clean (held g at) in
     let one = asked.survives (held g at) in
     let still = holds_still packing old mid kept one (store g at c.if-not-is_first.false) in
-    answered_since packing old mid kept one (store g at c.if-not-is_first.false) new (λ it. inl it) (c.take_step.ensures.survives still) c.take_step.result c.take_step.ensures.done
+    answered_since packing old mid kept one (store g at c.if-not-is_first.false) new was_packing (c.take_step.ensures.survives still) c.take_step.result c.take_step.ensures.done
 
 pub returns-clause-err : goal.returns-clause-err
 returns-clause-err g c =
@@ -64,7 +64,7 @@ returns-clause-survives g c =
     let kept : HasCleanDisk mid → KeepsCommit old mid = λ clean. asked.kept clean (held g at) in
     let one = asked.survives (held g at) in
     let still = holds_still packing old mid kept one (store g at c.if-not-is_first.false) in
-    leaves_since packing old mid kept one (store g at c.if-not-is_first.false) (LeavesMigrated old) (λ left it. inl it) new (c.take_step.ensures.survives still)
+    leaves_since packing old mid kept one (store g at c.if-not-is_first.false) (LeavesMigrated old) left_packing new (c.take_step.ensures.survives still)
 
 pub returns-then-not-is_first-clause-err : goal.returns-then-not-is_first-clause-err
 returns-then-not-is_first-clause-err g c clean =
@@ -75,7 +75,7 @@ returns-then-not-is_first-clause-err g c clean =
     let other : ¬ (versions_said old.committed.trees ≡ pos 1 ∷ []) = let it = asked.found clean held in search rules in
     let none = none_of_1 old.now c.requires.schema
     (isnt_seen old new (λ clean. asked.kept clean held) (asked.survives held) (λ trees. versions_said trees ≡ pos 1 ∷ []) clean c.requires.settled other (asked.open clean held).is_open) in
-    (asked.kept clean held, none.0, none.1, none.2, none.3)
+    refused_as_none old new (asked.kept clean held) none
 
 pub returns-then-not-is_first-clause-mode : goal.returns-then-not-is_first-clause-mode
 returns-then-not-is_first-clause-mode g c = (c.is_version.ensures.answers rows_layout).mode

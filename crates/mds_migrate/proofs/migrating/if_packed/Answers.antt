@@ -1,4 +1,4 @@
-use Rattle.std.proofs.Common.{IsTrue, inl, inr, rules, true, ◌≡◌}
+use Rattle.std.proofs.Common.{IsTrue, rules, true, ◌≡◌}
 use Rattle.std.proofs.lemmas.Result.{err_from_is_err_and}
 use Rattle.sqlite.specs.Held.{state}
 use Rattle.sqlite.specs.State.{HasCleanDisk, KeepsCommit}
@@ -8,7 +8,7 @@ use Rattle.mds_pack_rows.proofs.TwoSchemas.{tables_seen}
 use Rattle.mds_store.specs.Packed.{ArePacked, IsPackedStore}
 use Rattle.mds_store.proofs.CurrentAdopting.{is_so}
 use Rattle.mds_migrate.specs.Migrated.{LeavesMigrated, dating}
-use Rattle.mds_migrate.proofs.Asking.{answered_since, holds_still, is_packed, isnt_seen, leaves_since, none_of_2, refused_since}
+use Rattle.mds_migrate.proofs.Asking.{answered_since, holds_still, is_packed, isnt_seen, leaves_since, left_dating, none_of_2, refused_as_none, refused_since, was_dating}
 use Rattle.mds_migrate.proofs.Taking.{leaves_none}
 use Rattle.mds_migrate.proofs.migrating.if_packed.Given.{Over}
 use Rattle.mds_migrate.proofs.migrating.if_packed.Goals as goal
@@ -41,7 +41,7 @@ returns-clause-done g c =
     let kept : HasCleanDisk mid → KeepsCommit old mid = λ clean. asked.kept clean (held g at) in
     let one = asked.survives (held g at) in
     let still = holds_still dating old mid kept one (store g at c.if-not-is_packed.false) in
-    answered_since dating old mid kept one (store g at c.if-not-is_packed.false) new (λ it. inr (inl it)) (c.take_step.ensures.survives still) c.take_step.result c.take_step.ensures.done
+    answered_since dating old mid kept one (store g at c.if-not-is_packed.false) new was_dating (c.take_step.ensures.survives still) c.take_step.result c.take_step.ensures.done
 
 pub returns-clause-err : goal.returns-clause-err
 returns-clause-err g c =
@@ -65,7 +65,7 @@ returns-clause-survives g c =
     let kept : HasCleanDisk mid → KeepsCommit old mid = λ clean. asked.kept clean (held g at) in
     let one = asked.survives (held g at) in
     let still = holds_still dating old mid kept one (store g at c.if-not-is_packed.false) in
-    leaves_since dating old mid kept one (store g at c.if-not-is_packed.false) (LeavesMigrated old) (λ left it. inr (inl it)) new (c.take_step.ensures.survives still)
+    leaves_since dating old mid kept one (store g at c.if-not-is_packed.false) (LeavesMigrated old) left_dating new (c.take_step.ensures.survives still)
 
 pub returns-then-not-is_packed-clause-err : goal.returns-then-not-is_packed-clause-err
 returns-then-not-is_packed-clause-err g c clean =
@@ -76,7 +76,7 @@ returns-then-not-is_packed-clause-err g c clean =
     let other : ¬ ArePacked old.committed.trees = let it = asked.found clean held in search rules in
     let none = none_of_2 old.now c.requires.schema
     (isnt_seen old new (λ clean. asked.kept clean held) (asked.survives held) ArePacked clean c.requires.settled other (asked.open clean held).is_open) in
-    (asked.kept clean held, none.0, none.1, none.2, none.3)
+    refused_as_none old new (asked.kept clean held) none
 
 pub returns-then-not-is_packed-clause-mode : goal.returns-then-not-is_packed-clause-mode
 returns-then-not-is_packed-clause-mode g c = c.are_packed.ensures.answers.mode

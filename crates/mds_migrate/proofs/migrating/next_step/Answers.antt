@@ -38,22 +38,22 @@ pub if_current-requires-clause-settled : goal.if_current-requires-clause-settled
 if_current-requires-clause-settled g c = c.is_autocommit.ensures.settled c.if-not-is_autocommit.false
 
 pub if_current-requires-clause-schema : goal.if_current-requires-clause-schema
-if_current-requires-clause-schema g c = sym c.schema.ensures.value ∙ is_so _ c.has_schema-is_fourth.result c.if-is_fourth.true c.has_schema-is_fourth.ensures
+if_current-requires-clause-schema g c = sym c.schema.ensures.value ∙ is_so _ c.has_schema-is_current.result c.if-is_current.true c.has_schema-is_current.ensures
 
-pub returns-then-is_fourth-clause-done : goal.returns-then-is_fourth-clause-done
-returns-then-is_fourth-clause-done g c = c.if_current.ensures.done
+pub returns-then-is_current-clause-done : goal.returns-then-is_current-clause-done
+returns-then-is_current-clause-done g c = c.if_current.ensures.done
 
-pub returns-then-is_fourth-clause-err : goal.returns-then-is_fourth-clause-err
-returns-then-is_fourth-clause-err g c = c.if_current.ensures.err
+pub returns-then-is_current-clause-err : goal.returns-then-is_current-clause-err
+returns-then-is_current-clause-err g c = c.if_current.ensures.err
 
-pub returns-then-is_fourth-clause-settled : goal.returns-then-is_fourth-clause-settled
-returns-then-is_fourth-clause-settled g c = each_err c.if_current.result _ (λ _ _. c.is_autocommit.ensures.settled c.if-not-is_autocommit.false)
+pub returns-then-is_current-clause-settled : goal.returns-then-is_current-clause-settled
+returns-then-is_current-clause-settled g c = each_err c.if_current.result _ (λ _ _. c.is_autocommit.ensures.settled c.if-not-is_autocommit.false)
 
-pub returns-then-is_fourth-clause-mode : goal.returns-then-is_fourth-clause-mode
-returns-then-is_fourth-clause-mode g c = c.if_current.ensures.mode ∙ sym (not-true _ (sym c.is_autocommit.ensures.value ∙ c.if-not-is_autocommit.false))
+pub returns-then-is_current-clause-mode : goal.returns-then-is_current-clause-mode
+returns-then-is_current-clause-mode g c = c.if_current.ensures.mode ∙ sym (not-true _ (sym c.is_autocommit.ensures.value ∙ c.if-not-is_autocommit.false))
 
-pub returns-then-is_fourth-clause-survives : goal.returns-then-is_fourth-clause-survives
-returns-then-is_fourth-clause-survives g c = leaves_none (state g.S.Store c.args.conn.now) (state g.S.Store c.if_current.new.conn) _ c.if_current.ensures.survives
+pub returns-then-is_current-clause-survives : goal.returns-then-is_current-clause-survives
+returns-then-is_current-clause-survives g c = leaves_none (state g.S.Store c.args.conn.now) (state g.S.Store c.if_current.new.conn) _ c.if_current.ensures.survives
 
 pub if_daily-requires-clause-mode : goal.if_daily-requires-clause-mode
 if_daily-requires-clause-mode g c = not-true _ (sym c.is_autocommit.ensures.value ∙ c.if-not-is_autocommit.false)
@@ -136,7 +136,7 @@ returns-then-not-is_first-clause-err g c = λ _. (
   (λ is. isnt_so _ c.has_schema-is_first.result c.if-not-is_first.true c.has_schema-is_first.ensures (c.schema-4.ensures.value ∙ is.schema)),
   (λ is. isnt_so _ c.has_schema-is_second.result c.if-is_second.false c.has_schema-is_second.ensures (c.schema-3.ensures.value ∙ is.store.schema)),
   (λ is. isnt_so _ c.has_schema-is_third.result c.if-is_third.false c.has_schema-is_third.ensures (c.schema-2.ensures.value ∙ is.store.schema)),
-  (λ is. isnt_so _ c.has_schema-is_fourth.result c.if-is_fourth.false c.has_schema-is_fourth.ensures (c.schema.ensures.value ∙ is.store.schema)),
+  (λ is. isnt_so _ c.has_schema-is_current.result c.if-is_current.false c.has_schema-is_current.ensures (c.schema.ensures.value ∙ is.store.schema)),
 )
 
 pub returns-then-not-is_first-clause-settled : goal.returns-then-not-is_first-clause-settled

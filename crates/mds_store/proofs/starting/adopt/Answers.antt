@@ -1,15 +1,12 @@
 use Rattle.std.specs.Prelude.{◌≡◌, IsTrue}
-use Rattle.std.proofs.Common.{rules, inl, inr, arith, ◌∙◌, refl, sym, true, false, Bool}
+use Rattle.std.proofs.Common.{rules, inl, inr, ◌∙◌, refl, sym, true, false, Bool}
 use Rattle.sqlite.specs.Held.{state}
 use Rattle.sqlite.specs.State.{HasCleanDisk}
 use Rattle.mds_tables.specs.Stores.{HoldsTablesOf}
 use Rattle.mds_pack_rows.specs.Current.{current_layout, current_schema}
-use Rattle.mds_pack_rows.specs.DailyLayout.{daily_layout}
-use Rattle.mds_pack_rows.proofs.TwoSchemas.{not_of}
-use Rattle.mds_tables.specs.Layouts.{rows_layout}
-use Rattle.mds_pack_rows.specs.PacksLayout.{packs_layout}
 use Rattle.mds_store.specs.CurrentStore.{AreCurrent}
-use Rattle.mds_store.proofs.CurrentAdopting.{is_formed_adopted, isnt_seen, of_formed, still_formed, is_so}
+use Rattle.mds_store.proofs.CurrentAdopting.{is_current_adopted, isnt_seen, of_current, still_current, is_so}
+use Rattle.mds_store.proofs.Earlier.{not_earlier}
 use Rattle.std.specs.Bool.{MatchBool}
 use Rattle.std.proofs.lemmas.Bool.{both_ways, not-false, not-true}
 use Rattle.mds_tables.proofs.CallLemmas.{keeps_same, survives_same}
@@ -39,21 +36,21 @@ over-requires-clause-holds g c =
     let old = state g.S.Store c.args.conn in
     let new = state g.S.Store c.are_current.new.conn in
     let held : HoldsTablesOf current_layout old = search rules in
-    let formed : HasCleanDisk new → AreCurrent old.committed.trees = λ clean. let it = c.in-Ok-true.ensures.answers.found clean held in search rules in
+    let current : HasCleanDisk new → AreCurrent old.committed.trees = λ clean. let it = c.in-Ok-true.ensures.answers.found clean held in search rules in
     λ clean.
     let is_open = (c.in-Ok-true.ensures.answers.open clean held).is_open in
-    (is_open, still_formed old new held (c.are_current.ensures.answers.survives held) (λ clean. c.are_current.ensures.answers.kept clean held) formed clean is_open)
+    (is_open, still_current old new held (c.are_current.ensures.answers.survives held) (λ clean. c.are_current.ensures.answers.kept clean held) current clean is_open)
 
 pub returns-in-Ok-true-clause-ok : goal.returns-in-Ok-true-clause-ok
 returns-in-Ok-true-clause-ok g c =
     let old = state g.S.Store c.args.conn in
     let new = state g.S.Store c.are_current.new.conn in
     let held : HoldsTablesOf current_layout old = search rules in
-    let formed : HasCleanDisk new → AreCurrent old.committed.trees = λ clean. let it = c.in-Ok-true.ensures.answers.found clean held in search rules in
+    let current : HasCleanDisk new → AreCurrent old.committed.trees = λ clean. let it = c.in-Ok-true.ensures.answers.found clean held in search rules in
     rw c.over.ensures
     (λ (clean : HasCleanDisk new).
-    is_formed_adopted old new held (c.are_current.ensures.answers.survives held) (λ clean. c.are_current.ensures.answers.kept clean held) clean
-    (c.in-Ok-true.ensures.answers.open clean held) (formed clean))
+    is_current_adopted old new held (c.are_current.ensures.answers.survives held) (λ clean. c.are_current.ensures.answers.kept clean held) clean
+    (c.in-Ok-true.ensures.answers.open clean held) (current clean))
 
 pub returns-in-Ok-true-clause-limit : goal.returns-in-Ok-true-clause-limit
 returns-in-Ok-true-clause-limit g c =
@@ -71,14 +68,8 @@ returns-in-Ok-false-clause-err g c clean =
       c.are_current.ensures.answers.kept clean held,
       (λ store.
           isnt_seen current_layout old new held (λ clean. c.are_current.ensures.answers.kept clean held) AreCurrent clean settled other
-          (c.in-Ok-false.ensures.answers.open clean held).is_open (of_formed old.now store)),
-      (λ earlier. elim earlier [
-        | inl first ↦ not_of rows_layout current_schema old.now has (λ same. omega (arith, same)) first
-        | inr later ↦ elim later [
-          | inl second ↦ not_of packs_layout current_schema old.now has (λ same. omega (arith, same)) second.store
-          | inr third ↦ not_of daily_layout current_schema old.now has (λ same. omega (arith, same)) third.store
-        ]
-      ]),
+          (c.in-Ok-false.ensures.answers.open clean held).is_open (of_current old.now store)),
+      not_earlier old.now has,
     )
 
 pub returns-in-Ok-false-clause-limit : goal.returns-in-Ok-false-clause-limit
@@ -196,13 +187,13 @@ returns-then-is_third-clause-mode g c = c.refusal_of_third.ensures.mode ∙ sym 
 pub returns-then-is_third-clause-survives : goal.returns-then-is_third-clause-survives
 returns-then-is_third-clause-survives g c = c.refusal_of_third.ensures.survives
 
-pub returns-then-not-is_fourth-clause-ok : goal.returns-then-not-is_fourth-clause-ok
-returns-then-not-is_fourth-clause-ok g c = tt
+pub returns-then-not-is_current-clause-ok : goal.returns-then-not-is_current-clause-ok
+returns-then-not-is_current-clause-ok g c = tt
 
-pub returns-then-not-is_fourth-clause-err : goal.returns-then-not-is_fourth-clause-err
-returns-then-not-is_fourth-clause-err g c clean = (
+pub returns-then-not-is_current-clause-err : goal.returns-then-not-is_current-clause-err
+returns-then-not-is_current-clause-err g c clean = (
   keeps_same (state g.S.Store c.args.conn),
-  (λ formed. isnt_so _ c.has_schema-is_fourth.result c.if-not-is_fourth.true c.has_schema-is_fourth.ensures (c.schema-4.ensures.value ∙ formed.store.schema)),
+  (λ current. isnt_so _ c.has_schema-is_current.result c.if-not-is_current.true c.has_schema-is_current.ensures (c.schema-4.ensures.value ∙ current.store.schema)),
   (λ earlier. elim earlier [
     | inl first ↦ isnt_so _ c.has_schema-is_first.result c.if-is_first.false c.has_schema-is_first.ensures (c.schema.ensures.value ∙ first.schema)
     | inr later ↦ elim later [
@@ -212,17 +203,17 @@ returns-then-not-is_fourth-clause-err g c clean = (
   ]),
 )
 
-pub returns-then-not-is_fourth-clause-busy : goal.returns-then-not-is_fourth-clause-busy
-returns-then-not-is_fourth-clause-busy g c = λ busy. absurd (both_ways _ (not-true _ (sym c.is_autocommit.ensures.value ∙ c.if-not-is_autocommit.false)) busy)
+pub returns-then-not-is_current-clause-busy : goal.returns-then-not-is_current-clause-busy
+returns-then-not-is_current-clause-busy g c = λ busy. absurd (both_ways _ (not-true _ (sym c.is_autocommit.ensures.value ∙ c.if-not-is_autocommit.false)) busy)
 
-pub returns-then-not-is_fourth-clause-limit : goal.returns-then-not-is_fourth-clause-limit
-returns-then-not-is_fourth-clause-limit g c = refl
+pub returns-then-not-is_current-clause-limit : goal.returns-then-not-is_current-clause-limit
+returns-then-not-is_current-clause-limit g c = refl
 
-pub returns-then-not-is_fourth-clause-mode : goal.returns-then-not-is_fourth-clause-mode
-returns-then-not-is_fourth-clause-mode g c = refl
+pub returns-then-not-is_current-clause-mode : goal.returns-then-not-is_current-clause-mode
+returns-then-not-is_current-clause-mode g c = refl
 
-pub returns-then-not-is_fourth-clause-survives : goal.returns-then-not-is_fourth-clause-survives
-returns-then-not-is_fourth-clause-survives g c = survives_same (state g.S.Store c.args.conn)
+pub returns-then-not-is_current-clause-survives : goal.returns-then-not-is_current-clause-survives
+returns-then-not-is_current-clause-survives g c = survives_same (state g.S.Store c.args.conn)
 
 pub are_current-requires : goal.are_current-requires
 are_current-requires g c = not-true _ (sym c.is_autocommit.ensures.value ∙ c.if-not-is_autocommit.false)

@@ -1,13 +1,13 @@
 use Rattle.std.specs.Prelude.{◌≡◌, [], ◌∷◌, pos}
-use Rattle.std.proofs.Common.{rules, inl, inr, ap, ◌∙◌, arith}
+use Rattle.std.proofs.Common.{rules, ap, ◌∙◌, arith}
 use Rattle.sqlite.specs.Held.{state}
 use Rattle.mds_tables.specs.Layouts.{rows_layout}
 use Rattle.mds_tables.specs.Stores.{IsStore}
 use Rattle.mds_tables.specs.Tables.{schema_1}
 use Rattle.mds_pack_rows.specs.Current.{current_layout}
-use Rattle.mds_pack_rows.specs.DailyLayout.{daily_layout}
 use Rattle.mds_store.proofs.Adopting.{is_none, said}
-use Rattle.mds_pack_rows.proofs.TwoSchemas.{not_of, not_second, tables_seen}
+use Rattle.mds_store.proofs.Earlier.{is_first, of_first}
+use Rattle.mds_pack_rows.proofs.TwoSchemas.{not_of, tables_seen}
 use Rattle.mds_store.proofs.starting.refusal_of_first.Goals as goal
 
 pub returns-in-Ok-true-clause-err : goal.returns-in-Ok-true-clause-err
@@ -17,7 +17,7 @@ returns-in-Ok-true-clause-err g c clean =
     let says : said old.committed ≡ pos 1 ∷ [] = let it = (c.in-Ok-true.ensures.answers rows_layout).found clean held in search rules in
     let same = c.requires.settled ((c.in-Ok-true.ensures.answers rows_layout).open clean held).was_open in
     let store : IsStore old.now = record { schema = c.requires.schema; version = ap said same ∙ says } in
-    ((c.is_version.ensures.answers rows_layout).kept clean held, inl store)
+    ((c.is_version.ensures.answers rows_layout).kept clean held, of_first old.now store)
 
 pub returns-in-Ok-true-clause-limit : goal.returns-in-Ok-true-clause-limit
 returns-in-Ok-true-clause-limit g c =
@@ -39,15 +39,9 @@ returns-in-Ok-false-clause-err g c clean =
     let other : ¬ (said old.committed ≡ pos 1 ∷ []) = let it = (c.in-Ok-false.ensures.answers rows_layout).found clean held in search rules in (
       asked.kept clean held,
       (λ later. not_of current_layout schema_1 old.now c.requires.schema (λ same. omega (arith, same)) later.store),
-      (λ earlier. elim earlier [
-        | inl store ↦
-            is_none rows_layout old new held (asked.survives held) (λ clean. asked.kept clean held) clean c.requires.settled other
-            ((c.in-Ok-false.ensures.answers rows_layout).open clean held).is_open store
-        | inr later ↦ elim later [
-          | inl second ↦ not_second old.now c.requires.schema second.store
-          | inr third ↦ not_of daily_layout schema_1 old.now c.requires.schema (λ same. omega (arith, same)) third.store
-        ]
-      ]),
+      (λ earlier.
+          is_none rows_layout old new held (asked.survives held) (λ clean. asked.kept clean held) clean c.requires.settled other
+          ((c.in-Ok-false.ensures.answers rows_layout).open clean held).is_open (is_first old.now c.requires.schema earlier)),
     )
 
 pub returns-in-Ok-false-clause-limit : goal.returns-in-Ok-false-clause-limit

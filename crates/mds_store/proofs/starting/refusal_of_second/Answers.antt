@@ -1,13 +1,13 @@
-use Rattle.std.proofs.Common.{rules, inl, inr, arith, subst, sym}
+use Rattle.std.proofs.Common.{rules, arith, subst, sym}
 use Rattle.sqlite.specs.Effect.{Database}
 use Rattle.sqlite.specs.Held.{state}
 use Rattle.mds_pack_rows.specs.Current.{current_layout}
-use Rattle.mds_pack_rows.specs.DailyLayout.{daily_layout}
 use Rattle.mds_pack_rows.specs.PackTables.{schema_2}
 use Rattle.mds_pack_rows.specs.PacksLayout.{packs_layout}
-use Rattle.mds_pack_rows.proofs.TwoSchemas.{not_first, not_of, tables_seen}
+use Rattle.mds_pack_rows.proofs.TwoSchemas.{not_of, tables_seen}
 use Rattle.mds_store.specs.Packed.{ArePacked, IsPackedStore}
 use Rattle.mds_store.proofs.CurrentAdopting.{isnt_seen, of_pack}
+use Rattle.mds_store.proofs.Earlier.{is_second, of_second}
 use Rattle.mds_store.proofs.starting.refusal_of_second.Goals as goal
 
 pub returns-in-Ok-true-clause-err : goal.returns-in-Ok-true-clause-err
@@ -19,7 +19,7 @@ returns-in-Ok-true-clause-err g c clean =
     let now : ArePacked old.now.trees = subst (λ (db : Database). ArePacked db.trees) (sym same) are in
     let store : IsPackedStore old.now =
     record { store = record { schema = c.requires.schema; version = now.version }; unversioned = now.unversioned } in
-    (c.are_packed.ensures.answers.kept clean held, inr (inl store))
+    (c.are_packed.ensures.answers.kept clean held, of_second old.now store)
 
 pub returns-in-Ok-false-clause-err : goal.returns-in-Ok-false-clause-err
 returns-in-Ok-false-clause-err g c clean =
@@ -30,15 +30,9 @@ returns-in-Ok-false-clause-err g c clean =
     let other : ¬ ArePacked old.committed.trees = let it = c.in-Ok-false.ensures.answers.found clean held in search rules in (
       asked.kept clean held,
       (λ later. not_of current_layout schema_2 old.now c.requires.schema (λ same. omega (arith, same)) later.store),
-      (λ earlier. elim earlier [
-        | inl first ↦ not_first old.now c.requires.schema first
-        | inr later ↦ elim later [
-          | inl store ↦
-              isnt_seen packs_layout old new held (λ clean. asked.kept clean held) ArePacked clean c.requires.settled other
-              (c.in-Ok-false.ensures.answers.open clean held).is_open (of_pack old.now store)
-          | inr third ↦ not_of daily_layout schema_2 old.now c.requires.schema (λ same. omega (arith, same)) third.store
-        ]
-      ]),
+      (λ earlier.
+          isnt_seen packs_layout old new held (λ clean. asked.kept clean held) ArePacked clean c.requires.settled other
+          (c.in-Ok-false.ensures.answers.open clean held).is_open (of_pack old.now (is_second old.now c.requires.schema earlier))),
     )
 
 pub returns-in-Err-clause-err : goal.returns-in-Err-clause-err

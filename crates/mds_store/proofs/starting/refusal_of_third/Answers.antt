@@ -1,14 +1,13 @@
-use Rattle.std.proofs.Common.{rules, inl, inr, arith, subst, sym}
+use Rattle.std.proofs.Common.{rules, arith, subst, sym}
 use Rattle.sqlite.specs.Effect.{Database}
 use Rattle.sqlite.specs.Held.{state}
-use Rattle.mds_tables.specs.Layouts.{rows_layout}
 use Rattle.mds_pack_rows.specs.Current.{current_layout}
 use Rattle.mds_pack_rows.specs.DailyLayout.{daily_layout}
 use Rattle.mds_pack_rows.specs.DailyTables.{schema_3}
-use Rattle.mds_pack_rows.specs.PacksLayout.{packs_layout}
 use Rattle.mds_pack_rows.proofs.TwoSchemas.{not_of, tables_seen}
 use Rattle.mds_store.specs.Daily.{AreDaily, IsDailyStore}
 use Rattle.mds_store.proofs.CurrentAdopting.{isnt_seen, of_daily}
+use Rattle.mds_store.proofs.Earlier.{is_third, of_third}
 use Rattle.mds_store.proofs.starting.refusal_of_third.Goals as goal
 
 pub returns-in-Ok-true-clause-err : goal.returns-in-Ok-true-clause-err
@@ -20,7 +19,7 @@ returns-in-Ok-true-clause-err g c clean =
     let now : AreDaily old.now.trees = subst (λ (db : Database). AreDaily db.trees) (sym same) are in
     let store : IsDailyStore old.now =
     record { store = record { schema = c.requires.schema; version = now.version }; bare = now.bare } in
-    (c.are_daily.ensures.answers.kept clean held, inr (inr store))
+    (c.are_daily.ensures.answers.kept clean held, of_third old.now store)
 
 pub returns-in-Ok-false-clause-err : goal.returns-in-Ok-false-clause-err
 returns-in-Ok-false-clause-err g c clean =
@@ -31,15 +30,9 @@ returns-in-Ok-false-clause-err g c clean =
     let other : ¬ AreDaily old.committed.trees = let it = c.in-Ok-false.ensures.answers.found clean held in search rules in (
       asked.kept clean held,
       (λ later. not_of current_layout schema_3 old.now c.requires.schema (λ same. omega (arith, same)) later.store),
-      (λ earlier. elim earlier [
-        | inl first ↦ not_of rows_layout schema_3 old.now c.requires.schema (λ same. omega (arith, same)) first
-        | inr later ↦ elim later [
-          | inl second ↦ not_of packs_layout schema_3 old.now c.requires.schema (λ same. omega (arith, same)) second.store
-          | inr store ↦
-              isnt_seen daily_layout old new held (λ clean. asked.kept clean held) AreDaily clean c.requires.settled other
-              (c.in-Ok-false.ensures.answers.open clean held).is_open (of_daily old.now store)
-        ]
-      ]),
+      (λ earlier.
+          isnt_seen daily_layout old new held (λ clean. asked.kept clean held) AreDaily clean c.requires.settled other
+          (c.in-Ok-false.ensures.answers.open clean held).is_open (of_daily old.now (is_third old.now c.requires.schema earlier))),
     )
 
 pub returns-in-Err-clause-err : goal.returns-in-Err-clause-err
