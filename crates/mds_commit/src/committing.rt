@@ -1,4 +1,4 @@
-//! Commits additions to a store of schema 4.
+//! Commits additions to a store of the current schema.
 
 ghost use Rattle.std.specs.Prelude.{◌≡◌, false, OnErr, OnOk};
 ghost use Rattle.sqlite.specs.Held.{state};
@@ -111,8 +111,8 @@ fn write<S: Alter>(
     Ok(())
 }
 
-/// Commits additions to the World that a store of schema 4 keeps: all of them, or nothing. A crash leaves what was kept, or that
-/// with all of them. The caller passes the rows of accumulations and jobs (`period_rows`, `job_rows` of `mds_tables`). Also
+/// Commits additions to the World that a store of the current schema keeps: all of them, or nothing. A crash leaves what was kept,
+/// or that with all of them. The caller passes the rows of accumulations and jobs (`period_rows`, `job_rows` of `mds_tables`). Also
 /// unavailable if mds_head says another unit of the day of a head.
 pub fn commit<S: Alter>(
     alloc: Global,

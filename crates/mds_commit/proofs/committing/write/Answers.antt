@@ -7,8 +7,7 @@ use Rattle.mds_keeper.specs.declared.additions.Additions.{Additions}
 use Rattle.mds_tables.proofs.CallLemmas.{survives_more}
 use Rattle.mds_tables.specs.Frames.{IsAt}
 use Rattle.mds_tables.specs.Writing.{HasAddedOf, LeavesWrittenOf, WritesOf}
-use Rattle.mds_pack_rows.specs.FormLayout.{forms_layout}
-use Rattle.mds_pack_rows.specs.FormTables.{schema_4}
+use Rattle.mds_pack_rows.specs.Current.{current_layout, current_schema}
 use Rattle.mds_commit.specs.FormPutting.{GainsForms}
 use Rattle.mds_commit.proofs.CommitLemmas.{at_begun}
 use Rattle.mds_commit.proofs.committing.write.Goals as goal
@@ -26,35 +25,35 @@ module _ (a b d e : State) (additions : Additions) (begun : b ≡ record a { in_
   })
 
   -- an end that isn't the commit leaves nothing
-  left : Survives d e (λ _. ⊥) → Survives a e (LeavesWrittenOf forms_layout GainsForms a additions)
+  left : Survives d e (λ _. ⊥) → Survives a e (LeavesWrittenOf current_layout GainsForms a additions)
   left two =
-      survives_then a d e (λ _. ⊥) (λ _. ⊥) (LeavesWrittenOf forms_layout GainsForms a additions) (λ _ db none. absurd none) (λ _ db none. absurd none)
+      survives_then a d e (λ _. ⊥) (λ _. ⊥) (LeavesWrittenOf current_layout GainsForms a additions) (λ _ db none. absurd none) (λ _ db none. absurd none)
       (survives_more a b d begins one) two
 
   -- the commit leaves what was put
-  module _ (put : HasCleanDisk d → IsAt schema_4 b → IsAt schema_4 d × HasAddedOf forms_layout GainsForms additions b.now.trees d.now.trees)
+  module _ (put : HasCleanDisk d → IsAt current_schema b → IsAt current_schema d × HasAddedOf current_layout GainsForms additions b.now.trees d.now.trees)
       (two : Survives d e (λ db. db ≡ d.now.trees)) where
-    module _ (clean : HasCleanDisk e) (at : IsAt schema_4 a) where
-      done : IsAt schema_4 d × HasAddedOf forms_layout GainsForms additions b.now.trees d.now.trees
+    module _ (clean : HasCleanDisk e) (at : IsAt current_schema a) where
+      done : IsAt current_schema d × HasAddedOf current_layout GainsForms additions b.now.trees d.now.trees
       done = put (omega (arith, clean, two.clean)) (at_begun a b begun at)
 
-      all_put : HasAddedOf forms_layout GainsForms additions a.now.trees d.now.trees
-      all_put = subst (λ (s : State). HasAddedOf forms_layout GainsForms additions s.now.trees d.now.trees) begun done.1
+      all_put : HasAddedOf current_layout GainsForms additions a.now.trees d.now.trees
+      all_put = subst (λ (s : State). HasAddedOf current_layout GainsForms additions s.now.trees d.now.trees) begun done.1
 
-    wrote : HasCleanDisk e → Shows d e d.now d.now false → WritesOf forms_layout GainsForms a e additions
+    wrote : HasCleanDisk e → Shows d e d.now d.now false → WritesOf current_layout GainsForms a e additions
     wrote clean shown = record {
       is_open = λ o. shown.is_open;
       schema = λ o has sound.
           ap (λ (db : Database). db.schema) shown.committed_is ∙ (done clean (record { is_open = o; schema = has; sound = sound })).0.schema;
       added = λ o has sound.
-          subst (λ (db : Database). HasAddedOf forms_layout GainsForms additions a.now.trees db.trees) (sym shown.committed_is)
+          subst (λ (db : Database). HasAddedOf current_layout GainsForms additions a.now.trees db.trees) (sym shown.committed_is)
           (all_put clean (record { is_open = o; schema = has; sound = sound }));
     }
 
-    leaves : Survives a e (LeavesWrittenOf forms_layout GainsForms a additions)
+    leaves : Survives a e (LeavesWrittenOf current_layout GainsForms a additions)
     leaves =
-        survives_then a d e (λ _. ⊥) (λ db. db ≡ d.now.trees) (LeavesWrittenOf forms_layout GainsForms a additions) (λ _ db none. absurd none)
-        (λ clean db same o has sound. subst (HasAddedOf forms_layout GainsForms additions a.now.trees) (sym same)
+        survives_then a d e (λ _. ⊥) (λ db. db ≡ d.now.trees) (LeavesWrittenOf current_layout GainsForms a additions) (λ _ db none. absurd none)
+        (λ clean db same o has sound. subst (HasAddedOf current_layout GainsForms additions a.now.trees) (sym same)
         (all_put clean (record { is_open = o; schema = has; sound = sound })))
         (survives_more a b d begins one) two
 
@@ -78,7 +77,7 @@ pub returns-in_err-put_additions-clause-survives : goal.returns-in_err-put_addit
 returns-in_err-put_additions-clause-survives g c =
     let start = state g.S.Store c.args.conn.now in
     let new = state g.S.Store c.drop-tx.new.self.0 in
-    let made : Survives start new (LeavesWrittenOf forms_layout GainsForms start c.args.additions.now) =
+    let made : Survives start new (LeavesWrittenOf current_layout GainsForms start c.args.additions.now) =
     left start (state g.S.Store c.transaction-tx.result.conn.now) (state g.S.Store c.put_additions.new.tx.conn.now) new c.args.additions.now
     (ap (state g.S.Store) c.transaction-tx.ensures.begun) c.put_additions.ensures.frames.survives c.drop-tx.ensures.survives in
     search rules
@@ -87,7 +86,7 @@ pub returns-in_err-or_unavailable-clause-survives : goal.returns-in_err-or_unava
 returns-in_err-or_unavailable-clause-survives g c =
     let start = state g.S.Store c.args.conn.now in
     let new = state g.S.Store c.commit.new.self.0 in
-    let made : Survives start new (LeavesWrittenOf forms_layout GainsForms start c.args.additions.now) =
+    let made : Survives start new (LeavesWrittenOf current_layout GainsForms start c.args.additions.now) =
     leaves start (state g.S.Store c.transaction-tx.result.conn.now) (state g.S.Store c.put_additions.new.tx.conn.now) new c.args.additions.now
     (ap (state g.S.Store) c.transaction-tx.ensures.begun) c.put_additions.ensures.frames.survives c.in_ok-put_additions.ensures.frames.done c.commit.ensures.survives in
     search rules
@@ -96,7 +95,7 @@ pub returns-clause-ok : goal.returns-clause-ok
 returns-clause-ok g c =
     let start = state g.S.Store c.args.conn.now in
     let new = state g.S.Store c.commit.new.self.0 in
-    let done : HasCleanDisk new → WritesOf forms_layout GainsForms start new c.args.additions.now =
+    let done : HasCleanDisk new → WritesOf current_layout GainsForms start new c.args.additions.now =
     λ clean. wrote start (state g.S.Store c.transaction-tx.result.conn.now) (state g.S.Store c.put_additions.new.tx.conn.now) new c.args.additions.now
     (ap (state g.S.Store) c.transaction-tx.ensures.begun) c.put_additions.ensures.frames.survives c.in_ok-put_additions.ensures.frames.done c.commit.ensures.survives clean
     (rw c.in_ok-or_unavailable.ensures at (c.commit.ensures.ok clean)).1 in
@@ -106,7 +105,7 @@ pub returns-clause-survives : goal.returns-clause-survives
 returns-clause-survives g c =
     let start = state g.S.Store c.args.conn.now in
     let new = state g.S.Store c.commit.new.self.0 in
-    let made : Survives start new (LeavesWrittenOf forms_layout GainsForms start c.args.additions.now) =
+    let made : Survives start new (LeavesWrittenOf current_layout GainsForms start c.args.additions.now) =
     leaves start (state g.S.Store c.transaction-tx.result.conn.now) (state g.S.Store c.put_additions.new.tx.conn.now) new c.args.additions.now
     (ap (state g.S.Store) c.transaction-tx.ensures.begun) c.put_additions.ensures.frames.survives c.in_ok-put_additions.ensures.frames.done c.commit.ensures.survives in
     search rules
