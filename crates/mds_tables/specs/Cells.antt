@@ -35,7 +35,7 @@ abbrev pub head_cells : Head → Row
 head_cells h =
     Text h.stream.nmi ∷ Text h.stream.suffix ∷ number_cell h.day ∷ number_cell h.length ∷ Text (unit_text h.unit) ∷ []
 
--- a row of mds_head in schema 4, which says a day and its unit; its length column is 0
+-- a row of mds_head since schema 4, which says a day and its unit; its length column is 0
 abbrev pub unit_cells : Head → Row
 unit_cells h =
     Text h.stream.nmi ∷ Text h.stream.suffix ∷ number_cell h.day ∷ number_cell 0 ∷ Text (unit_text h.unit) ∷ []

@@ -41,11 +41,11 @@ job_tree = 14
 abbrev pub trees_taken : ℕ
 trees_taken = 16
 
--- The tree of mds_daydetail, which in schema 3 follows them and mds_pack.
+-- The tree of mds_daydetail, which since schema 3 follows them and mds_pack.
 abbrev pub daydetail_tree : ℕ
 daydetail_tree = 18
 
--- The tree of mds_form, which in schema 4 follows that one.
+-- The tree of mds_form, which since schema 4 follows that one.
 abbrev pub form_tree : ℕ
 form_tree = 20
 
