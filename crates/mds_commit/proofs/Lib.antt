@@ -15,11 +15,13 @@ pub mod FormTexts
 pub mod InOrder
 pub mod KeepLemmas
 pub mod NearestRows
+pub mod NewUnits
 pub mod Numbers
 pub mod OwnLemmas
 pub mod RangeLemmas
 pub mod RangeRows
 pub mod ReferenceLemmas
+pub mod RowidAsking
 pub mod StreamLemmas
 pub mod Telling
 pub mod UnitAsking

@@ -1,5 +1,6 @@
 -- Heads, versions and details that are put in turn, as what the current layout says by itself.
-use Rattle.std.proofs.Common.{◌≡◌, ◌++◌, List, map, Result, sym, subst, ◌∙◌, append_assoc, arith}
+use Rattle.std.proofs.Common.{◌≡◌, ◌<◌, ◌^◌, ◌++◌, List, map, Result, sym, subst, ◌∙◌, append_assoc, arith}
+use Rattle.std.specs.List.{AllByRecursion}
 use Rattle.sqlite.specs.Effect.{Database}
 use Rattle.sqlite.specs.Schema.{Schema}
 use Rattle.sqlite.specs.State.{HasCleanDisk, IsUnchanged, State}
@@ -8,6 +9,7 @@ use Rattle.sqlite_trees.specs.Tree.{Trees}
 use Rattle.mds_world.specs.Facts.{Fact}
 use Rattle.mds_world.specs.Facts.Fact.{DetailIs, HeadIs}
 use Rattle.mds_world.specs.Lists.{Member}
+use Rattle.mds_world.specs.declared.facts.Head.{Head}
 use Rattle.mds_keeper.specs.Content.{details_of, heads_of, version_fact, versions_of}
 use Rattle.mds_keeper.specs.declared.additions.Additions.{Additions}
 use Rattle.mds_tables.specs.Cells.{detail_cells, form_cells, unit_cells}
@@ -33,12 +35,14 @@ use Rattle.mds_pack_rows.proofs.FrameLemmas.{frames_finds}
 use Rattle.mds_pack_rows.proofs.NameLemmas.{named_on}
 use Rattle.mds_commit.specs.Committing.{KeepsUnits, PutsDays}
 use Rattle.mds_commit.specs.FormPutting.{GainsForms, SayUnits, form_part}
-use Rattle.mds_commit.specs.Units.{AsksThere}
+use Rattle.mds_commit.specs.Units.{AsksThere, HaveRowids}
 use Rattle.mds_commit.proofs.AfterLemmas.{keeps_on, untouched}
 use Rattle.mds_commit.proofs.FormLemmas.{forms_more}
-use Rattle.mds_commit.proofs.KeepLemmas.{heads_keep}
+use Rattle.mds_commit.proofs.KeepLemmas.{heads_put}
+use Rattle.mds_commit.proofs.NewUnits.{say_new}
+use Rattle.mds_commit.proofs.UnitAsking.{say_both}
 
--- ---- new days, and then their units
+-- ---- new days, and then units
 
 -- questions to mds_head
 pub frames_asked : {X E : Type 0} (a b : State) (r : Result X E) (Tells : X → Trees → Type 0) → AsksThere a b r Tells
@@ -49,9 +53,12 @@ frames_asked a b r Tells asks = frames_finds (daydetails_then after_details) a b
 pub days_put : (a b c : State) (additions : Additions) → IsAt current_schema a
     → Puts current_schema head_part a b additions.new_days.items
     × TakesAll a.step_limit (in_turn head_part additions.new_days.items) a.now b.now
-    → IsUnchanged b c × SayUnits (heads_of additions) b.now.trees → PutsDays a c additions
-days_put a b c additions at days asked =
+    → AllByRecursion (λ (head : Head). head.day < 2 ^ 63) additions.new_days.items
+    → IsUnchanged b c × (HaveRowids b.now.trees × SayUnits additions.heads.items b.now.trees) → PutsDays a c additions
+days_put a b c additions at days below asked =
     let put = days.0 in
+    let new_days = additions.new_days.items in
+    let heads = heads_put a.step_limit new_days a.now b.now at.schema days.1 in
     let now : b.now ≡ c.now = sym asked.0.0.now_is in
     record {
       put = record {
@@ -62,8 +69,9 @@ days_put a b c additions at days asked =
         sound = subst (λ (db : Database). IsSound current_schema db.trees) now put.sound;
       };
       keeps = subst (λ (db : Database). KeepsUnits additions.new_days.items (a.now.trees head_tree) (db.trees head_tree)) now
-          (heads_keep a.step_limit additions.new_days.items a.now b.now at.schema days.1);
-      say = subst (λ (db : Database). SayUnits (heads_of additions) db.trees) now asked.1;
+          heads.keeps;
+      say = subst (λ (db : Database). SayUnits (heads_of additions) db.trees) now
+          (say_both new_days additions.heads.items b.now.trees (say_new b.now.trees put.sound asked.1.0 new_days below heads.alone) asked.1.1);
     }
 
 -- ---- all of them

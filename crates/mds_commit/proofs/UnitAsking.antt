@@ -246,3 +246,9 @@ all_more P front row all here r m = elim (member_append r front (row ∷ []) m) 
   | inl n ↦ all r n
   | inr n ↦ elim n [ inl e ↦ subst P (sym e) here | inr none ↦ absurd none ]
 ]
+
+-- the days of heads up to a place, and that of the one there
+pub days_more : (front : List Head) (head : Head) → AllByRecursion (λ (h : Head). h.day < 2 ^ 63) front → head.day < 2 ^ 63
+    → AllByRecursion (λ (h : Head). h.day < 2 ^ 63) (front ++ head ∷ [])
+days_more [] head all here = (here, tt)
+days_more (h ∷ hs) head all here = (all.0, days_more hs head all.1 here)

@@ -1,7 +1,8 @@
 -- What queries of mds_head find of the units of days, in a transaction (profile).
-use Rattle.std.specs.Prelude.{◌≡◌, ◌≤◌, ℕ, List, [], ◌∷◌, IfOk, IsTrue, OnOk, Result}
+use Rattle.std.specs.Prelude.{◌≡◌, ◌≤◌, ℕ, List, [], ◌∷◌, IfOk, IsTrue, OnOk, Result, false}
 use Rattle.sqlite.specs.State.{HasCleanDisk, KeepsCommit, State, Survives}
-use Rattle.sqlite_trees.specs.Tree.{Trees}
+use Rattle.sqlite_sql.specs.Ops.{is_null}
+use Rattle.sqlite_trees.specs.Tree.{Trees, rowid}
 use Rattle.sqlite_value.specs.Order.{Row, column}
 use Rattle.mds_names.specs.declared.stream.Stream.{Stream}
 use Rattle.mds_quantity.specs.declared.unit.Unit.{Unit as MeasureUnit}
@@ -37,3 +38,13 @@ SayUnit s first last unit trees =
 -- a head has the stream and the unit of another, and is on a day from that one's to the last
 abbrev pub IsLike : Head → ℕ → Head → Type 0
 IsLike first last head = (head.stream ≡ first.stream) × (head.unit ≡ first.unit) × (first.day ≤ head.day) × (head.day ≤ last)
+
+-- no row of mds_head has NULL as its rowid
+abbrev pub HaveRowids : Trees → Type 0
+HaveRowids trees = (row : Row) → Member row (trees head_tree) → is_null (rowid row) ≡ false
+
+-- for each row of mds_head one of these rows, each of one column, has NULL if it has NULL as its rowid
+abbrev pub TellRowids : List Row → Trees → Type 0
+TellRowids shown trees =
+    (row : Row) → Member row (trees head_tree)
+    → (first : Row) × Member first shown × (is_null (column first 0) ≡ false → is_null (rowid row) ≡ false)

@@ -13,7 +13,7 @@ ghost use Rattle.mds_commit.specs.Committing.{PutsDays};
 ghost use Rattle.mds_commit.specs.FormPutting.{GainsForms, form_part};
 
 use crate::forms::FormTable;
-use crate::units::have_units;
+use crate::units::{are_days, have_rowids, have_units};
 use mds_keeper::{Additions, Unavailable};
 use mds_pack_rows::{put_days, put_details};
 use mds_tables::{HeadTable, JobRow, PeriodRow, or_unavailable, put_all, put_rest, ready};
@@ -21,7 +21,8 @@ use mds_world::Head;
 use sqlite::{Alter, Connection, Transaction};
 use std::alloc::Global;
 
-/// Puts the rows of new days, and tests that mds_head says the unit of each added head. So the earlier heads keep their units.
+/// Puts the rows of new days, and tests that mds_head says the unit of each other head. So the earlier heads keep their units. The
+/// row of a new day says its unit, as no other row has its key.
 fn put_new_days<S: Alter>(
     alloc: Global,
     tx: &mut Transaction<'_, S>,
@@ -31,7 +32,8 @@ fn put_new_days<S: Alter>(
     ensures frames { Frames current_schema (λ _. PutsDays (state S.Store tx.old.conn.now) (state S.Store tx.new.conn.now) additions.now) (state S.Store tx.old.conn.now) (state S.Store tx.new.conn.now) result }
 {
     or_unavailable(put_all::<(), Head, HeadTable, S>(alloc, tx, &(), &additions.new_days))?;
-    have_units(tx, &additions.new_days)?;
+    have_rowids(tx)?;
+    are_days(&additions.new_days);
     have_units(tx, &additions.heads)
 }
 

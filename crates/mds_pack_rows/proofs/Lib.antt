@@ -2,7 +2,7 @@ pub mod AskLemmas
 pub mod BodyLemmas
 pub mod Creates
 pub mod DetailLemmas
-pub mod EightLemmas
+pub mod BatchLemmas
 pub mod FrameLemmas
 pub mod LaidLemmas
 pub mod MakingTexts

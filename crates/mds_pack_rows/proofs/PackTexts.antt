@@ -1,5 +1,5 @@
 -- What the texts of the statements mean, whatever tables stand behind mds_pack.
-use Rattle.std.proofs.Common.{◌≡◌, List, ℕ, [], ◌∷◌, ◌++◌, codes, refl, false}
+use Rattle.std.proofs.Common.{◌≡◌, List, ℕ, [], ◌∷◌, codes, refl, false}
 use Rattle.sqlite.specs.Command.TheVariants.{Insert, Select, Update}
 use Rattle.sqlite.specs.Listing.{reads_listing, understood}
 use Rattle.sqlite.specs.Query.{Query}
@@ -8,7 +8,9 @@ use Rattle.sqlite.specs.Term.{Term, col, lit}
 use Rattle.sqlite.specs.declared.types.Value.TheVariants.{Null}
 use Rattle.sqlite.proofs.Callers.{IsPlain, command_of}
 use Rattle.sqlite_tied.specs.Compute.{everything}
+use Rattle.mds_tables.specs.Parts.{together}
 use Rattle.mds_tables.specs.Tables.{More, schema_with}
+use Rattle.mds_tables.specs.Tabling.{terms_of}
 use Rattle.mds_selects.proofs.SelectTexts.{columns_at, equals, from_one}
 use Rattle.mds_pack_rows.specs.PackTables.{body_columns, pack_tree, packs_then, update_columns}
 
@@ -32,21 +34,15 @@ pub insert_pack_plain : (rest : More) → IsPlain (understood (schema_with (pack
 unfolding understood everything
 insert_pack_plain rest = (refl, refl)
 
--- ---- eight rows that are put
+-- ---- several rows that are put
 
 abbrev pub insert_packs : List ℕ
-insert_packs = codes "INSERT INTO mds_pack (nmi, suffix, day, moment, body) VALUES (?1, ?2, ?3, ?4, ?5), (?6, ?7, ?8, ?9, ?10), (?11, ?12, ?13, ?14, ?15), (?16, ?17, ?18, ?19, ?20), (?21, ?22, ?23, ?24, ?25), (?26, ?27, ?28, ?29, ?30), (?31, ?32, ?33, ?34, ?35), (?36, ?37, ?38, ?39, ?40)"
+insert_packs = codes "INSERT INTO mds_pack (nmi, suffix, day, moment, body) VALUES (?1, ?2, ?3, ?4, ?5), (?6, ?7, ?8, ?9, ?10), (?11, ?12, ?13, ?14, ?15), (?16, ?17, ?18, ?19, ?20), (?21, ?22, ?23, ?24, ?25), (?26, ?27, ?28, ?29, ?30), (?31, ?32, ?33, ?34, ?35), (?36, ?37, ?38, ?39, ?40), (?41, ?42, ?43, ?44, ?45), (?46, ?47, ?48, ?49, ?50), (?51, ?52, ?53, ?54, ?55), (?56, ?57, ?58, ?59, ?60), (?61, ?62, ?63, ?64, ?65), (?66, ?67, ?68, ?69, ?70), (?71, ?72, ?73, ?74, ?75), (?76, ?77, ?78, ?79, ?80)"
 
--- the row that has these cells
-abbrev row_terms : ℕ → ℕ → ℕ → ℕ → ℕ → List Term
-row_terms a b c d e = lit Null ∷ col 0 a ∷ col 0 b ∷ col 0 c ∷ col 0 d ∷ col 0 e ∷ []
+abbrev pub batch_terms : List Term
+batch_terms = terms_of 0 5 together
 
-abbrev pub eight_terms : List Term
-eight_terms =
-    row_terms 0 1 2 3 4 ++ (row_terms 5 6 7 8 9 ++ (row_terms 10 11 12 13 14 ++ (row_terms 15 16 17 18 19
-    ++ (row_terms 20 21 22 23 24 ++ (row_terms 25 26 27 28 29 ++ (row_terms 30 31 32 33 34 ++ row_terms 35 36 37 38 39))))))
-
-pub insert_packs_is : (rest : More) → command_of (understood (schema_with (packs_then rest)) insert_packs) ≡ Insert pack_place (Values eight_terms 6)
+pub insert_packs_is : (rest : More) → command_of (understood (schema_with (packs_then rest)) insert_packs) ≡ Insert pack_place (Values batch_terms 6)
 unfolding understood everything
 insert_packs_is rest = refl
 

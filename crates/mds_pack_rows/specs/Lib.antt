@@ -4,7 +4,7 @@ pub mod DailyPutting
 pub mod DailyTables
 pub mod DayRows
 pub mod DetailTabling
-pub mod Eights
+pub mod Batches
 pub mod FailureSteps
 pub mod FormLayout
 pub mod FormTables

@@ -7,9 +7,10 @@ ghost use Rattle.sqlite.specs.State.{HasCleanDisk, KeepsCommit, Survives};
 ghost use Rattle.sqlite.specs.Values.{bound};
 ghost use Rattle.sqlite.specs.declared.types.Value.TheVariants.{Blob, Int};
 ghost use Rattle.mds_tables.specs.Cells.{day_cells as day_columns};
+ghost use Rattle.mds_tables.specs.Parts.{together};
 ghost use Rattle.mds_tables.specs.Stores.{Selects};
 ghost use Rattle.mds_tables.specs.Tables.{More, schema_with};
-ghost use Rattle.mds_pack_rows.specs.Eights.{SaySome, columns_of, said_by};
+ghost use Rattle.mds_pack_rows.specs.Batches.{SaySome, columns_of, said_by};
 ghost use Rattle.mds_pack_rows.specs.FailureSteps.{is_store_error};
 ghost use Rattle.mds_pack_rows.specs.PackCells as row;
 ghost use Rattle.mds_pack_rows.specs.PackFacts.{body_facts};
@@ -21,6 +22,10 @@ use mds_tables::{day_cells, or_unavailable};
 use mds_terms::{Day, Moment, Stream};
 use sqlite::types::ValueRef;
 use sqlite::{Alter, Error, ErrorCode, Row, Transaction};
+use std::alloc::{AllocError, Global};
+
+/// How many columns a row of mds_pack has, without its rowid.
+const WIDTH: usize = 5;
 
 /// The columns that name a day and an update.
 fn key_cells<'a>(stream: &'a Stream, day: Day, update: Moment) -> [ValueRef<'a>; 4]
@@ -65,29 +70,15 @@ fn cells_of<'a>(row: &'a PackRow) -> [ValueRef<'a>; 5]
     pack_cells(&row.stream, row.day, row.update, row.body.as_slice())
 }
 
-/// The columns of eight rows.
-fn eight_cells<'a>(rows: &'a [PackRow]) -> [[ValueRef<'a>; 5]; 8]
-    requires { length rows.now ≡ 8 }
-    ensures { bound (flat_map (λ x. x) result) ≡ flat_map columns_of rows.now }
+/// The columns of rows that have yet to be put.
+fn batch_cells<'a>(alloc: Global, rows: &'a [PackRow]) -> Result<Vec<ValueRef<'a>>, AllocError>
+    ensures { IfOk result (λ cells. bound cells.items ≡ flat_map columns_of rows.now) }
 {
-    let a = &rows[0];
-    let b = &rows[1];
-    let c = &rows[2];
-    let d = &rows[3];
-    let e = &rows[4];
-    let f = &rows[5];
-    let g = &rows[6];
-    let h = &rows[7];
-    [
-        cells_of(a),
-        cells_of(b),
-        cells_of(c),
-        cells_of(d),
-        cells_of(e),
-        cells_of(f),
-        cells_of(g),
-        cells_of(h),
-    ]
+    let mut cells = Vec::with_capacity(alloc, rows.len().saturating_mul(WIDTH))?;
+    for row in rows {
+        cells.extend_from_slice(&cells_of(row))?;
+    }
+    Ok(cells)
 }
 
 /// A rowid and a body.
@@ -194,13 +185,14 @@ fn are_taken(answer: Result<usize, Error>) -> Result<bool, Error>
     }
 }
 
-/// Puts eight rows with one statement. Each has at least one version. Returns whether the tables took them: if they refuse one, all
-/// stays as it was.
-pub(crate) fn insert_eight<S: Alter>(
+/// Puts as many rows as one statement does. Each has at least one version. Returns whether the tables took them: if they refuse one,
+/// all stays as it was.
+pub(crate) fn insert_batch<S: Alter>(
+    alloc: Global,
     tx: &mut Transaction<'_, S>,
     rows: &[PackRow],
 ) -> Result<bool, Unavailable>
-    requires eight { length rows.now ≡ 8 }
+    requires count { length rows.now ≡ together }
     requires some { SaySome rows.now }
     ensures same_reference { tx.new.conn.ghost_name ≡ tx.old.conn.ghost_name }
     ensures put { IfOk result (λ put. IsTrue put → PutsFacts (state S.Store tx.old.conn.now) (state S.Store tx.new.conn.now) (flat_map said_by rows.now)) }
@@ -208,10 +200,10 @@ pub(crate) fn insert_eight<S: Alter>(
     ensures kept { HasCleanDisk (state S.Store tx.new.conn.now) → KeepsCommit (state S.Store tx.old.conn.now) (state S.Store tx.new.conn.now) }
     ensures survives { Survives (state S.Store tx.old.conn.now) (state S.Store tx.new.conn.now) (λ _. ⊥) }
 {
-    let cells = eight_cells(rows);
+    let cells = batch_cells(alloc, rows)?;
     or_unavailable(are_taken(tx.execute(
-        "INSERT INTO mds_pack (nmi, suffix, day, moment, body) VALUES (?1, ?2, ?3, ?4, ?5), (?6, ?7, ?8, ?9, ?10), (?11, ?12, ?13, ?14, ?15), (?16, ?17, ?18, ?19, ?20), (?21, ?22, ?23, ?24, ?25), (?26, ?27, ?28, ?29, ?30), (?31, ?32, ?33, ?34, ?35), (?36, ?37, ?38, ?39, ?40)",
-        cells.as_flattened(),
+        "INSERT INTO mds_pack (nmi, suffix, day, moment, body) VALUES (?1, ?2, ?3, ?4, ?5), (?6, ?7, ?8, ?9, ?10), (?11, ?12, ?13, ?14, ?15), (?16, ?17, ?18, ?19, ?20), (?21, ?22, ?23, ?24, ?25), (?26, ?27, ?28, ?29, ?30), (?31, ?32, ?33, ?34, ?35), (?36, ?37, ?38, ?39, ?40), (?41, ?42, ?43, ?44, ?45), (?46, ?47, ?48, ?49, ?50), (?51, ?52, ?53, ?54, ?55), (?56, ?57, ?58, ?59, ?60), (?61, ?62, ?63, ?64, ?65), (?66, ?67, ?68, ?69, ?70), (?71, ?72, ?73, ?74, ?75), (?76, ?77, ?78, ?79, ?80)",
+        cells.as_slice(),
     )))
 }
 

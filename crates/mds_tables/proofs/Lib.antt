@@ -4,7 +4,7 @@ pub mod ChangeLemmas
 pub mod CommitLemmas
 pub mod CreateLemmas
 pub mod CreateTexts
-pub mod Eights
+pub mod Batches
 pub mod FactLemmas
 pub mod FrameLemmas
 pub mod InsertLemmas

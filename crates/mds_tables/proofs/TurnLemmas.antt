@@ -5,7 +5,7 @@ use Rattle.std.proofs.Math.Seq.{take-add}
 use Rattle.std.specs.Simd.{first_chunks}
 use Rattle.sqlite_value.specs.Order.{Row}
 use Rattle.mds_tables.specs.Parts.{Part, in_turn, singly, statements_of, together}
-use Rattle.mds_tables.proofs.Eights.{statements_both}
+use Rattle.mds_tables.proofs.Batches.{statements_both}
 
 -- the parts up to a place, and those behind it
 chunks_rest : {X : Type 0} (n k j : ℕ) (xs : List X) → first_chunks n (k + j) xs ≡ first_chunks n k xs ++ first_chunks n j (drop (k * n) xs)

@@ -17,7 +17,7 @@ holiday_tabling = record {
   read = holiday_part.read;
   width = 1;
   one = codes "INSERT INTO mds_holiday (day) VALUES (?1)";
-  many = codes "INSERT INTO mds_holiday (day) VALUES (?1), (?2), (?3), (?4), (?5), (?6), (?7), (?8)";
+  many = codes "INSERT INTO mds_holiday (day) VALUES (?1), (?2), (?3), (?4), (?5), (?6), (?7), (?8), (?9), (?10), (?11), (?12), (?13), (?14), (?15), (?16)";
 }
 
 pub holiday_is : (rest : More) → IsTabled holiday_tabling rest

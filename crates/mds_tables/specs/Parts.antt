@@ -78,7 +78,7 @@ singly part items = statements_of part (map (λ item. item ∷ []) items)
 
 -- how many rows one statement puts, if enough are left
 abbrev pub together : ℕ
-together = 8
+together = 16
 
 -- so many at a time while there are enough, and the rest one by one
 abbrev pub in_turn : {A : Type 0} → Part A → List A → List (ℕ × List Row)

@@ -2,7 +2,7 @@
 //!
 //! It decides the columns of each row except that of a packed day (`cells.rt`), and what a layout leaves open to a schema
 //! (`specs/Layouts.antt`). A query that fails and a row that doesn't read become Unavailable (U1) here, and nowhere else (`refusals.rt`).
-//! It decides which rows one statement puts (eight of a table, one of mds_event), and in which order: events, accumulations, holidays, jobs
+//! It decides which rows one statement puts (sixteen of a table, one of mds_event), and in which order: events, accumulations, holidays, jobs
 //! (`putting.rt`). A job or an accumulation that can't become a row is Unavailable (U1). Rows of any table are put by one code (`rows.rt`):
 //! a table gives texts, columns and one law (`Tabled`).
 //! Callers: every crate over SQL, from `mds_selects` up to `mds_store` and `mds_migrate`. `mds_pack_rows` and `mds_commit` have tables of

@@ -16,7 +16,10 @@ use std::slice::from_ref;
 
 /// How many rows one statement puts, if enough are left. A statement of one row spends half of its time on other things than
 /// the row.
-pub const TOGETHER: usize = 8;
+pub const TOGETHER: usize = 16;
+
+/// The most columns that a row of a table has. So many are made room for at once.
+const MOST_COLUMNS: usize = 9;
 
 /// A table in which things `A` are rows. All rows that are put at once may share something, `W`.
 pub trait Tabled<W, A> {
@@ -51,7 +54,7 @@ fn cells_of<'a, W, A, T: Tabled<W, A>>(
 ) -> Result<Vec<ValueRef<'a>>, AllocError>
     ensures { IfOk result (λ cells. bound cells.items ≡ flat_map (T.tabling with.now).cells items.now) }
 {
-    let mut cells = Vec::new(alloc);
+    let mut cells = Vec::with_capacity(alloc, items.len().saturating_mul(MOST_COLUMNS))?;
     for item in items {
         T::add_cells(item, with, &mut cells)?;
     }

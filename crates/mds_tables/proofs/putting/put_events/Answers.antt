@@ -5,7 +5,7 @@ use Rattle.mds_tables.specs.Tables.{schema_with}
 use Rattle.mds_tables.specs.Parts.{event_part, singly}
 use Rattle.mds_tables.specs.Writing.{PutsEach}
 use Rattle.mds_tables.proofs.ChangeLemmas.{more_put, more_stopped, none_put}
-use Rattle.mds_tables.proofs.Eights.{singly_both, singly_more}
+use Rattle.mds_tables.proofs.Batches.{singly_both, singly_more}
 use Rattle.mds_tables.proofs.PutLemmas.{one_more}
 use Rattle.mds_tables.proofs.putting.put_events.Goals as goal
 

@@ -5,7 +5,7 @@ use Rattle.mds_tables.specs.Tables.{schema_with}
 use Rattle.mds_tables.specs.Parts.{singly}
 use Rattle.mds_tables.specs.Writing.{PutsEach}
 use Rattle.mds_tables.proofs.ChangeLemmas.{more_put, more_stopped, none_put}
-use Rattle.mds_tables.proofs.Eights.{singly_both, singly_more}
+use Rattle.mds_tables.proofs.Batches.{singly_both, singly_more}
 use Rattle.mds_tables.proofs.PutLemmas.{one_more}
 use Rattle.mds_tables.specs.Tabling.{part_in}
 use Rattle.mds_tables.proofs.rows.put_each.Goals as goal

@@ -4,7 +4,7 @@ use Rattle.mds_pack_rows.specs.PackFacts.{minutes_of, readings_in}
 use Rattle.mds_pack_rows.proofs.BodyLemmas.{length_back, says}
 use Rattle.mds_pack_rows.proofs.PutLemmas.{says_day, says_some, whole_said}
 use Rattle.mds_pack_rows.proofs.SpreadLemmas.{all_held}
-use Rattle.mds_pack_rows.proofs.eights.pack_whole.Goals as goal
+use Rattle.mds_pack_rows.proofs.batches.pack_whole.Goals as goal
 
 pub returns-clause-says : goal.returns-clause-says
 returns-clause-says c =

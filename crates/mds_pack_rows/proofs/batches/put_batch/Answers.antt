@@ -4,7 +4,7 @@ use Rattle.sqlite.specs.Held.{state}
 use Rattle.mds_keeper.specs.Content.{version_fact, versions_of}
 use Rattle.mds_tables.proofs.CallLemmas.{survives_more}
 use Rattle.mds_pack_rows.proofs.PutLemmas.{if_ok, kept_then, puts_then}
-use Rattle.mds_pack_rows.proofs.eights.put_eight.Goals as goal
+use Rattle.mds_pack_rows.proofs.batches.put_batch.Goals as goal
 
 pub returns-clause-ok : goal.returns-clause-ok
 returns-clause-ok g c =

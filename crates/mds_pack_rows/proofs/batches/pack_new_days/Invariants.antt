@@ -1,6 +1,6 @@
 use Rattle.std.proofs.Common.{◌≡◌, length, take}
-use Rattle.mds_pack_rows.specs.Eights.{SayDays, SaySome}
-use Rattle.mds_pack_rows.proofs.eights.pack_new_days.Given as goal
+use Rattle.mds_pack_rows.specs.Batches.{SayDays, SaySome}
+use Rattle.mds_pack_rows.proofs.batches.pack_new_days.Given as goal
 
 abbrev pub invariant-loop-added : goal.invariant-loop-added
 invariant-loop-added l = record {

@@ -1,4 +1,4 @@
-//! Versions of days, with eight new rows put at once.
+//! Versions of days, with several new rows put at once.
 
 ghost use Rattle.std.specs.Prelude.{◌≡◌, ◌≢◌, [], IfOk, IfSome, IsTrue, OnOk, false, length as list_length, map};
 ghost use Rattle.sqlite.specs.Held.{state};
@@ -7,12 +7,12 @@ ghost use Rattle.std.specs.FinSet as set;
 ghost use Rattle.mds_world.specs.FactOrder.{fact_cmp};
 ghost use Rattle.mds_keeper.specs.Books.{row_fact};
 ghost use Rattle.mds_keeper.specs.Content.{version_fact, versions_of, whole_rows};
-ghost use Rattle.mds_pack_rows.specs.Eights.{SayDays, SaySome, SaysDay, said_by};
+ghost use Rattle.mds_pack_rows.specs.Batches.{SayDays, SaySome, SaysDay, said_by};
 ghost use Rattle.mds_pack_rows.specs.Putting.{IsThere, PutsFacts};
 
 use crate::bodies::has_some;
 use crate::grouping::{put_each_day, readings_by_interval};
-use crate::statements::{PackRow, insert_eight};
+use crate::statements::{PackRow, insert_batch};
 use mds_keeper::{DayVersions, Unavailable, Version, VersionRows};
 use mds_packs::{pack_day, pack_readings};
 use mds_runs::DayReadings;
@@ -27,8 +27,8 @@ use std::cmp::Ordering;
 /// Unavailable if a version is kept already, or if one has an interval that its length doesn't have. Also if those of one day and
 /// update have two lengths.
 ///
-/// An update of a day is new if its head is among `new_days` or `further`. Both lists are ordered by stream and day. Eight adjacent
-/// days that are new in this way go in with one statement.
+/// An update of a day is new if its head is among `new_days` or `further`. Both lists are ordered by stream and day. A batch of adjacent
+/// days that are new in this way goes in with one statement.
 pub fn put_days<S: Alter>(
     alloc: Global,
     tx: &mut Transaction<'_, S>,
@@ -41,15 +41,15 @@ pub fn put_days<S: Alter>(
     ensures kept { IsThere (state S.Store tx.old.conn.now) (state S.Store tx.new.conn.now) → KeepsCommit (state S.Store tx.old.conn.now) (state S.Store tx.new.conn.now) }
     ensures survives { Survives (state S.Store tx.old.conn.now) (state S.Store tx.new.conn.now) (λ _. ⊥) }
 {
-    let (eights, rest) = days.as_chunks::<TOGETHER>();
-    for eight in eights {
-        put_eight(alloc, tx, new_days, further, eight)?;
+    let (batches, rest) = days.as_chunks::<TOGETHER>();
+    for batch in batches {
+        put_batch(alloc, tx, new_days, further, batch)?;
     }
     put_each_day(alloc, tx, rest)
 }
 
-/// Puts versions of eight days: with one statement if possible, or else day by day.
-fn put_eight<S: Alter>(
+/// Puts versions of a batch of days: with one statement if possible, or else day by day.
+fn put_batch<S: Alter>(
     alloc: Global,
     tx: &mut Transaction<'_, S>,
     new_days: &[Head],
@@ -67,7 +67,7 @@ fn put_eight<S: Alter>(
     put_each_day(alloc, tx, days)
 }
 
-/// Puts versions of eight days with one statement, and returns whether it did. It puts nothing if those of one day aren't a new row,
+/// Puts versions of a batch of days with one statement, and returns whether it did. It puts nothing if those of one day aren't a new row,
 /// or if the tables refuse a row.
 fn put_at_once<S: Alter>(
     alloc: Global,
@@ -85,7 +85,7 @@ fn put_at_once<S: Alter>(
     let Some(rows) = pack_new_days(alloc, new_days, further, days)? else {
         return Ok(false);
     };
-    insert_eight(tx, rows.as_slice())
+    insert_batch(alloc, tx, rows.as_slice())
 }
 
 /// The row of each day. `None` if the versions of one aren't a new row.

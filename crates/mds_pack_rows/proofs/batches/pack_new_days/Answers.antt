@@ -1,9 +1,9 @@
 use Rattle.std.proofs.Common.{◌≢◌, ◌+◌, [], ◌∷◌, IfSome, ap, arith, length, refl, subst, sym, take, take_all}
 use Rattle.std.proofs.lemmas.Result.{IfOk-from_err}
 use Rattle.sqlite_trees.proofs.ListLemmas.{all-append}
-use Rattle.mds_pack_rows.specs.Eights.{SayDays, SaySome, SaysDay, said_by}
-use Rattle.mds_pack_rows.proofs.EightLemmas.{say_more}
-use Rattle.mds_pack_rows.proofs.eights.pack_new_days.Goals as goal
+use Rattle.mds_pack_rows.specs.Batches.{SayDays, SaySome, SaysDay, said_by}
+use Rattle.mds_pack_rows.proofs.BatchLemmas.{say_more}
+use Rattle.mds_pack_rows.proofs.batches.pack_new_days.Goals as goal
 
 pub loop-added-preserved : goal.loop-added-preserved
 loop-added-preserved c =

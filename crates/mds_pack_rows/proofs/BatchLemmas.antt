@@ -1,7 +1,8 @@
--- Eight new days whose rows one statement puts.
-use Rattle.std.proofs.Common.{◌≡◌, ◌≢◌, ◌≤◌, ◌<◌, ◌+◌, ◌/◌, ◌++◌, ℕ, Bool, List, [], ◌∷◌, get_or, length, map, take, IsTrue, IfOk, IfSome, Ok, Err, None, Some, Option, Result, refl, sym, ap, subst, ◌∙◌, arith}
+-- New days whose rows one statement puts.
+use Rattle.std.proofs.Common.{◌≡◌, ◌≢◌, ◌≤◌, ◌<◌, ◌+◌, ◌/◌, ◌++◌, ℕ, Bool, List, [], ◌∷◌, get_or, length, map, take, IsTrue, IfOk, IfSome, Ok, Err, None, Some, Option, Result, refl, sym, ap, subst, ◌∙◌}
 use Rattle.std.proofs.lemmas.Grind.{flat_map-append}
-use Rattle.std.proofs.lemmas.List.{append-nil, map-append, take_more}
+use Rattle.std.proofs.lemmas.List.{append-nil, length-map, map-append, take_more}
+use Rattle.std.proofs.lemmas.List.Folds.{flat_map-map}
 use Rattle.std.specs.List.{flat_map}
 use Rattle.sqlite.specs.Command.TheVariants.{Insert}
 use Rattle.sqlite.specs.Does.{Does}
@@ -27,24 +28,26 @@ use Rattle.mds_keeper.specs.Books.{row_fact}
 use Rattle.mds_keeper.specs.Content.{day_versions, rows_of, version_fact, versions_of}
 use Rattle.mds_keeper.specs.declared.additions.DayVersions.{DayVersions}
 use Rattle.mds_keeper.specs.declared.day_book.Version.{Version}
+use Rattle.mds_tables.specs.Parts.{together}
 use Rattle.mds_tables.specs.Stores.{Gains}
 use Rattle.mds_tables.specs.Tables.{More, schema_with}
+use Rattle.mds_tables.specs.Tabling.{terms_of}
 use Rattle.mds_tables.specs.Writing.{KeepsOthers}
-use Rattle.mds_tables.proofs.Eights.{eight_got}
+use Rattle.mds_tables.proofs.TermLemmas.{AreWide, rows_are}
 use Rattle.mds_tables.proofs.RowLemmas.{of}
 use Rattle.mds_selects.proofs.MemberLemmas.{all_has}
-use Rattle.mds_pack_rows.specs.Eights.{SayDays, SaySome, SaysDay, columns_of, said_by}
+use Rattle.mds_pack_rows.specs.Batches.{SayDays, SaySome, SaysDay, columns_of, said_by}
 use Rattle.mds_pack_rows.specs.PackFacts.{body_facts, pack_facts, readings_in}
 use Rattle.mds_pack_rows.specs.PackTables.{pack_table, pack_tree, packs_then}
 use Rattle.mds_pack_rows.specs.Putting.{ChangesPacks, NamesMore, PutsFacts, SayRows}
 use Rattle.mds_pack_rows.specs.declared.statements.PackRow.{PackRow}
 use Rattle.mds_tables.proofs.ManyLemmas.{AddsAll, AreFit, adds_all, sources}
-use Rattle.mds_pack_rows.proofs.PackTexts.{eight_terms, insert_packs, insert_packs_is, insert_packs_plain, pack_place}
+use Rattle.mds_pack_rows.proofs.PackTexts.{batch_terms, insert_packs, insert_packs_is, insert_packs_plain, pack_place}
 use Rattle.mds_pack_rows.proofs.NameLemmas.{came_all, named_none, plain}
 use Rattle.mds_pack_rows.proofs.PutLemmas.{fits, is_database, others_in, puts_as, puts_then, ran_on, rows_say, same_others, says_day}
 use Rattle.mds_pack_rows.proofs.RefusedLemmas.{StaysAs}
 
--- ---- eight rows that are put
+-- ---- rows that are put
 
 fit_all : (rows : List PackRow) → AreFit pack_table (map columns_of rows)
 fit_all [] = tt
@@ -54,15 +57,20 @@ say_all : (rows : List PackRow) → flat_map (λ cells. pack_facts (Null ∷ cel
 say_all [] = refl
 say_all (r ∷ rs) = ap (λ facts. said_by r ++ facts) (say_all rs)
 
--- what the text puts are these rows
-text_rows : (rows : List PackRow) → length rows ≡ 8
-    → value_rows (flat_map columns_of rows ++ []) 6 (length eight_terms / 6) eight_terms ≡ sources (map columns_of rows)
-text_rows [] eight = absurd (omega arith)
-text_rows (r ∷ rs) eight =
-    subst (λ rows. value_rows (flat_map columns_of rows ++ []) 6 (length eight_terms / 6) eight_terms ≡ sources (map columns_of rows))
-    (sym (eight_got (r ∷ rs) eight r r r r r r r r)) refl
+wide_all : (rows : List PackRow) → AreWide 5 (map columns_of rows)
+wide_all [] = tt
+wide_all (r ∷ rs) = (refl, wide_all rs)
 
-module _ (rows : List PackRow) (eight : length rows ≡ 8) (count : ℕ) (old new : State) where
+-- what the text puts are these rows
+text_rows : (rows : List PackRow) → length rows ≡ together
+    → value_rows (flat_map columns_of rows ++ []) 6 (length batch_terms / 6) batch_terms ≡ sources (map columns_of rows)
+text_rows rows count =
+    let size : length (map columns_of rows) ≡ together = length-map rows columns_of ∙ count in
+    subst (λ n. value_rows (flat_map columns_of rows ++ []) 6 n (terms_of 0 5 n) ≡ sources (map columns_of rows)) size
+    (rows_are (flat_map columns_of rows ++ []) 5 (map columns_of rows) 0 [] (wide_all rows)
+    (ap (λ cells. cells ++ []) (sym (flat_map-map (λ (row : Row). row) columns_of rows))))
+
+module _ (rows : List PackRow) (whole : length rows ≡ together) (count : ℕ) (old new : State) where
   abbrev cells : Row
   cells = flat_map columns_of rows
 
@@ -76,8 +84,8 @@ module _ (rows : List PackRow) (eight : length rows ≡ 8) (count : ℕ) (old ne
       let w = runs_as insert_packs cells old new schema has _ (insert_packs_is rest) (insert_packs_plain rest) count ran.0 in
       let stated = statement_of insert_packs (understood schema insert_packs) in
       let does = subst (λ s. Does old.step_limit (mode_of old) cells (record old.now { schema = s }) stated None
-      (Insert pack_place (Values eight_terms 6)) (Ok (w.tally, new.now))) has w.changed in
-      let it = adds_all old.step_limit Enforced schema pack_table cells db (map columns_of rows) (fit_all rows) eight_terms 6 (text_rows rows eight)
+      (Insert pack_place (Values batch_terms 6)) (Ok (w.tally, new.now))) has w.changed in
+      let it = adds_all old.step_limit Enforced schema pack_table cells db (map columns_of rows) (fit_all rows) batch_terms 6 (text_rows rows whole)
       (no_works schema Enforced 0 pack_tree) (mode_of old) stated pack_place w.tally new.now refl refl does in
       let put : AddsAll schema db new.now.trees pack_table (map columns_of rows) = it.1 in (
         record {
@@ -96,9 +104,9 @@ module _ (rows : List PackRow) (eight : length rows ≡ 8) (count : ℕ) (old ne
       let it = in_map columns_of rows row m in
       subst (λ cells. plain cells ≢ []) (sym it.2) (all_has (λ (r : PackRow). said_by r ≢ []) rows it.0 some it.1)
 
-  pub eight_there : SaySome rows → (HasCleanDisk new → ExecutesInside 0 insert_packs cells old new (Ok count))
+  pub batch_there : SaySome rows → (HasCleanDisk new → ExecutesInside 0 insert_packs cells old new (Ok count))
       → PutsFacts old new (flat_map said_by rows)
-  eight_there some runs = (
+  batch_there some runs = (
     ran_on insert_packs cells count old new runs,
     λ there.
         let it = puts there.rest.more there.schema (runs there.clean) in (

@@ -1,6 +1,6 @@
 use Rattle.std.proofs.Common.{IsTrue, get_or, rules}
 use Rattle.mds_commit.proofs.UnitAsking.{asked_so, asked_then, say_like}
-use Rattle.mds_commit.proofs.units.have_eight.Goals as goal
+use Rattle.mds_commit.proofs.units.have_batch.Goals as goal
 
 pub returns-then-branch-clause-asks : goal.returns-then-branch-clause-asks
 returns-then-branch-clause-asks g c =

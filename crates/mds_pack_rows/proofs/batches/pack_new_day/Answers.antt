@@ -1,7 +1,7 @@
 use Rattle.std.proofs.Common.{ap, sym, ◌∙◌}
 use Rattle.mds_keeper.specs.Content.{rows_of}
-use Rattle.mds_pack_rows.proofs.EightLemmas.{row_of_day}
-use Rattle.mds_pack_rows.proofs.eights.pack_new_day.Goals as goal
+use Rattle.mds_pack_rows.proofs.BatchLemmas.{row_of_day}
+use Rattle.mds_pack_rows.proofs.batches.pack_new_day.Goals as goal
 
 pub returns-in-Each-clause-says : goal.returns-in-Each-clause-says
 returns-in-Each-clause-says c =

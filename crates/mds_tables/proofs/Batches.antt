@@ -1,42 +1,12 @@
--- Lists that are taken eight at a time, and the columns of eight rows.
+-- Lists that are taken in batches of one size.
 use Rattle.std.proofs.Common.{◌≡◌, ◌<◌, ◌+◌, ◌*◌, ℕ, zero, suc, List, [], ◌∷◌, ◌++◌, drop, get_or, length, map, take, refl, sym, ap, ◌∙◌, arith}
 use Rattle.std.proofs.lemmas.Grind.{flat_map-append}
 use Rattle.std.proofs.lemmas.List.{append-nil, append_assoc, map-append, take-append-drop, take_more}
 use Rattle.std.proofs.Math.Seq.{take-add}
 use Rattle.std.specs.List.{flat_map}
 use Rattle.std.specs.Simd.{first_chunks}
-use Rattle.sqlite.specs.Values.{bound, bound_value}
-use Rattle.sqlite_value.specs.declared.value.ValueRef.{ValueRef}
-use Rattle.sqlite_value.specs.Value.{owned}
 use Rattle.sqlite_value.specs.Order.{Row}
 use Rattle.mds_tables.specs.Parts.{Part, singly, statements_of}
-
--- columns that lie in several arrays
-pub bound_flat : (xs : List (List ValueRef)) → bound (flat_map (λ x. x) xs) ≡ flat_map bound xs
-bound_flat [] = refl
-bound_flat (x ∷ xs) = map-append (λ v. bound_value (owned v)) x (flat_map (λ x. x) xs) ∙ ap (λ l. bound x ++ l) (bound_flat xs)
-
--- a list of eight
-pub eight_got : {X : Type 0} (xs : List X) → length xs ≡ 8 → (a b c d e f g h : X)
-    → xs ≡ get_or xs 0 a ∷ get_or xs 1 b ∷ get_or xs 2 c ∷ get_or xs 3 d ∷ get_or xs 4 e ∷ get_or xs 5 f ∷ get_or xs 6 g ∷ get_or xs 7 h ∷ []
-eight_got (a' ∷ b' ∷ c' ∷ d' ∷ e' ∷ f' ∷ g' ∷ h' ∷ []) eight a b c d e f g h = refl
-eight_got (_ ∷ _ ∷ _ ∷ _ ∷ _ ∷ _ ∷ _ ∷ _ ∷ _ ∷ more) eight a b c d e f g h = absurd (omega arith)
-eight_got [] eight a b c d e f g h = absurd (omega arith)
-eight_got (_ ∷ []) eight a b c d e f g h = absurd (omega arith)
-eight_got (_ ∷ _ ∷ []) eight a b c d e f g h = absurd (omega arith)
-eight_got (_ ∷ _ ∷ _ ∷ []) eight a b c d e f g h = absurd (omega arith)
-eight_got (_ ∷ _ ∷ _ ∷ _ ∷ []) eight a b c d e f g h = absurd (omega arith)
-eight_got (_ ∷ _ ∷ _ ∷ _ ∷ _ ∷ []) eight a b c d e f g h = absurd (omega arith)
-eight_got (_ ∷ _ ∷ _ ∷ _ ∷ _ ∷ _ ∷ []) eight a b c d e f g h = absurd (omega arith)
-eight_got (_ ∷ _ ∷ _ ∷ _ ∷ _ ∷ _ ∷ _ ∷ []) eight a b c d e f g h = absurd (omega arith)
-
-pub eight_are : {X : Type 0} (xs : List X) → length xs ≡ 8 → (a b c d e f g h : X)
-    → a ≡ get_or xs 0 a → b ≡ get_or xs 1 b → c ≡ get_or xs 2 c → d ≡ get_or xs 3 d
-    → e ≡ get_or xs 4 e → f ≡ get_or xs 5 f → g ≡ get_or xs 6 g → h ≡ get_or xs 7 h
-    → xs ≡ a ∷ b ∷ c ∷ d ∷ e ∷ f ∷ g ∷ h ∷ []
-eight_are xs eight a b c d e f g h pa pb pc pd pe pf pg ph =
-    eight_got xs eight a b c d e f g h
-    ∙ (λ i. sym pa i ∷ sym pb i ∷ sym pc i ∷ sym pd i ∷ sym pe i ∷ sym pf i ∷ sym pg i ∷ sym ph i ∷ [])
 
 -- what lies in several arrays, as one list
 abbrev pub flat : {X : Type 0} → List (List X) → List X
@@ -49,10 +19,10 @@ flat_chunks n (suc k) xs =
     ap (λ l. take n xs ++ l) (flat_chunks n k (drop n xs)) ∙ sym (take-add n (k * n) xs) ∙ ap (λ m. take m xs) size
 
 -- the arrays and what is left are the whole
-pub chunks_are : {X : Type 0} (xs : List X) (k : ℕ) (chunks : List (List X)) (back : List X) → chunks ≡ first_chunks 8 k xs → back ≡ drop (k * 8) xs
-    → flat chunks ++ back ≡ xs
-chunks_are xs k chunks back front rest =
-    (λ i. flat (front i) ++ rest i) ∙ ap (λ l. l ++ drop (k * 8) xs) (flat_chunks 8 k xs) ∙ take-append-drop (k * 8) xs
+pub chunks_are : {X : Type 0} (n : ℕ) (xs : List X) (k : ℕ) (chunks : List (List X)) (back : List X) → chunks ≡ first_chunks n k xs
+    → back ≡ drop (k * n) xs → flat chunks ++ back ≡ xs
+chunks_are n xs k chunks back front rest =
+    (λ i. flat (front i) ++ rest i) ∙ ap (λ l. l ++ drop (k * n) xs) (flat_chunks n k xs) ∙ take-append-drop (k * n) xs
 
 -- the arrays up to a place, and the next
 pub flat_more : {X : Type 0} (xss : List (List X)) (at : ℕ) (xs : List X) → at < length xss → xs ≡ get_or xss at xs

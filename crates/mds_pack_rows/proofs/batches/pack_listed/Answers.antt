@@ -3,9 +3,9 @@ use Rattle.mds_packs.proofs.Whole.{any_held}
 use Rattle.mds_pack_rows.specs.PackFacts.{readings_in}
 use Rattle.mds_pack_rows.specs.Putting.{SayRows}
 use Rattle.mds_pack_rows.proofs.BodyLemmas.{says}
-use Rattle.mds_pack_rows.proofs.EightLemmas.{packed_says}
+use Rattle.mds_pack_rows.proofs.BatchLemmas.{packed_says}
 use Rattle.mds_pack_rows.proofs.PutLemmas.{says_some}
-use Rattle.mds_pack_rows.proofs.eights.pack_listed.Goals as goal
+use Rattle.mds_pack_rows.proofs.batches.pack_listed.Goals as goal
 
 pub returns-clause-says : goal.returns-clause-says
 returns-clause-says c =
