@@ -62,7 +62,7 @@ loop-feeder-init g c = record {
 
 pub returns-in-Err-feed-clause-fault : goal.returns-in-Err-feed-clause-fault
 returns-in-Err-feed-clause-fault g c = λ fault e.
-    let same : c.read_fault-in-Err-feed.result ≡ read.File fault = cc in
+    let same : c.read_fault-in-Err-feed.result ≡ read.File fault = same_error e in
     reading_stops _ _ _ fault c.loop-feeder.invariant.reading c.in-Ok.ensures.bytes.0
     c.in-Err-feed.ensures.answer (sym c.read_fault-in-Err-feed.ensures ∙ same)
 
