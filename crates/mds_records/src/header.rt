@@ -81,8 +81,8 @@ fn is_name(file: HeaderName, name: &[u8]) -> bool
     ensures { result ≡ bytes_eq name.now (file_name file) }
 {
     match file {
-        HeaderName::Nem12 => matches!(name, b"NEM12"),
-        HeaderName::Nem13 => matches!(name, b"NEM13"),
+        HeaderName::Nem12 => name == b"NEM12".as_slice(),
+        HeaderName::Nem13 => name == b"NEM13".as_slice(),
     }
 }
 
@@ -92,7 +92,7 @@ fn is_other_name(file: HeaderName, name: &[u8]) -> bool
 {
     // decides: L11: the header is that of the other kind of file
     match file {
-        HeaderName::Nem12 => matches!(name, b"NEM13"),
-        HeaderName::Nem13 => matches!(name, b"NEM12"),
+        HeaderName::Nem12 => name == b"NEM13".as_slice(),
+        HeaderName::Nem13 => name == b"NEM12".as_slice(),
     }
 }
