@@ -1,4 +1,5 @@
 pub mod CloseRuns
+pub mod Ends
 pub mod GapRuns
 pub mod KeptLemmas
 pub mod Overlays

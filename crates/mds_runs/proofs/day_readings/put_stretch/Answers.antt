@@ -1,4 +1,5 @@
-use Rattle.std.proofs.Common.{◌≡◌, ◌++◌, [], ◌∷◌, ap, sym, subst, ◌∙◌, true, false}
+use Rattle.std.proofs.Common.{◌≡◌, ◌++◌, [], ◌∷◌, ap, sym, subst, refl, ◌∙◌, true, false}
+use Rattle.std.proofs.lemmas.Result.{IfOk-from_err, MatchResult-from_err}
 use Rattle.mds_marks.specs.declared.mark.Mark.{Mark}
 use Rattle.mds_runs.specs.KeptReadings.{AreClose, marks_in}
 use Rattle.mds_runs.specs.Runs.{last_end}
@@ -39,3 +40,27 @@ returns-clause-close c =
 pub returns-clause-marks : goal.returns-clause-marks
 returns-clause-marks c =
     ap (marks_in 0) (pushed c) ∙ push-marks 0 c.args.runs.now.items (last_end c.args.runs.now.items) c.args.end c.args.mark.now c.requires.close
+
+pub returns-in_err-mark-clause-close : goal.returns-in_err-mark-clause-close
+returns-in_err-mark-clause-close c = IfOk-from_err _ _ c.from_residual.ensures.0
+
+pub returns-in_err-mark-clause-marks : goal.returns-in_err-mark-clause-marks
+returns-in_err-mark-clause-marks c = IfOk-from_err _ _ c.from_residual.ensures.0
+
+pub returns-in_err-mark-clause-kept : goal.returns-in_err-mark-clause-kept
+returns-in_err-mark-clause-kept c = MatchResult-from_err c.from_residual.result _ _ c.from_residual.ensures.0 (λ _. refl)
+
+pub returns-in_err-make_room-clause-close : goal.returns-in_err-make_room-clause-close
+returns-in_err-make_room-clause-close c = IfOk-from_err _ _ c.from_residual-in_err-make_room.ensures.0
+
+pub returns-in_err-make_room-clause-marks : goal.returns-in_err-make_room-clause-marks
+returns-in_err-make_room-clause-marks c = IfOk-from_err _ _ c.from_residual-in_err-make_room.ensures.0
+
+pub returns-in_err-make_room-clause-kept : goal.returns-in_err-make_room-clause-kept
+returns-in_err-make_room-clause-kept c = MatchResult-from_err c.from_residual-in_err-make_room.result _ _ c.from_residual-in_err-make_room.ensures.0 (λ _. c.make_room.ensures)
+
+pub returns-in_err-push-clause-close : goal.returns-in_err-push-clause-close
+returns-in_err-push-clause-close c = IfOk-from_err _ _ c.from_residual-in_err-push.ensures.0
+
+pub returns-in_err-push-clause-marks : goal.returns-in_err-push-clause-marks
+returns-in_err-push-clause-marks c = IfOk-from_err _ _ c.from_residual-in_err-push.ensures.0
