@@ -1,7 +1,7 @@
 -- Texts that are written, and buffers that are filled, call by call.
-use Rattle.std.proofs.Common.{◌≡◌, ℕ, ◌+◌, ◌-◌, ◌≤◌, List, [], ◌∷◌, ◌++◌, length, take, drop, Option, Some, None, suc, sym, ◌∙◌, ap, arith, append_assoc, zero-add}
-use Rattle.std.specs.Io.KnownBytes.{Appends as AppendsKnown, Consumes}
-use Rattle.std.proofs.lemmas.List.{take-take, take-append-drop, drop-take, drop-drop, take_rest, length-drop, take-append-le}
+use Rattle.std.proofs.Common.{◌≡◌, ℕ, ◌+◌, ◌-◌, ◌<◌, ◌≤◌, List, [], ◌∷◌, ◌++◌, length, take, drop, Option, Some, None, suc, sym, subst, ◌∙◌, ap, arith, append_assoc, zero-add}
+use Rattle.std.specs.Io.KnownBytes.{Appends as AppendsKnown, Consumes, Keeps}
+use Rattle.std.proofs.lemmas.List.{append-nil, take_all, take-take, take-append-drop, drop-take, drop-drop, take_rest, length-drop, take-append-le}
 
 -- a front and what follows it
 take_add : (n m : ℕ) (xs : List ℕ) → take n xs ++ take m (drop n xs) ≡ take (n + m) xs
@@ -31,6 +31,25 @@ wrote_more text rest count a b c h within k =
       take_rest rest count ∙ ap (drop count) h.2 ∙ drop-drop count h.0 text,
       appends_both a b c (take h.0 text) (take count rest) _ (ap (λ t. take h.0 text ++ take count t) h.2 ∙ take_add h.0 count text) h.3 k,
     )
+
+-- a failed call leaves a part, and without a rest all was written
+kept_none : (a b : Option (List ℕ)) → Keeps a b → AppendsKnown a b []
+kept_none None b k = tt
+kept_none (Some s) None k = absurd k
+kept_none (Some s) (Some t) k = k ∙ sym (append-nil s)
+
+pub wrote_part : (text rest : List ℕ) (a b c : Option (List ℕ)) → Wrote text rest a b → 0 < length rest → Keeps b c
+    → (n : ℕ) × (n < length text) × AppendsKnown a c (take n text)
+wrote_part text rest a b c h some k =
+    let size = ap length h.2 in
+    let left = length-drop h.0 text in
+    (h.0, omega arith, appends_both a b c (take h.0 text) [] (take h.0 text) (append-nil (take h.0 text)) h.3 (kept_none b c k))
+
+pub wrote_all : (text rest : List ℕ) (a b : Option (List ℕ)) → Wrote text rest a b → length rest ≡ 0 → AppendsKnown a b text
+wrote_all text rest a b h none =
+    let size = ap length h.2 in
+    let left = length-drop h.0 text in
+    subst (AppendsKnown a b) (take_all h.0 text (omega arith)) h.3
 
 -- reads one after the other
 pub consumes_both : (a b c : Option (List ℕ)) (xs ys : List ℕ) → Consumes a b xs → Consumes b c ys → Consumes a c (xs ++ ys)
