@@ -1,5 +1,5 @@
 -- Names and streams as text.
-use Rattle.std.proofs.Common.{◌≡◌, ℕ, ◌<◌, Bool, true, false, ◌&&◌, ◌==◌, if◌then◌else◌, is_ok, OnErr, List, [], ◌∷◌, ◌++◌, length, take, codes, refl, sym, ap, ◌∙◌, arith, MatchResult, IsOk, Ok, Err, Result, append_assoc}
+use Rattle.std.proofs.Common.{◌≡◌, ℕ, ◌+◌, ◌<◌, ◌≤◌, Bool, true, false, ◌&&◌, ◌==◌, if◌then◌else◌, is_ok, OnErr, List, [], ◌∷◌, ◌++◌, length, length-append, take, codes, refl, sym, ap, ◌∙◌, arith, MatchResult, IsOk, Ok, Err, Result, append_assoc}
 use Rattle.std.proofs.lemmas.Bool.Decides.{nat_tests}
 use Rattle.std.proofs.lemmas.List.Splits.{slice_split_at, slice_split_none}
 use Rattle.std.proofs.lemmas.List.Elements.{All-weaker}
@@ -50,3 +50,15 @@ part_nmi old new nmi suffix e = (length nmi, e ∙ ap (λ t. old ++ t) (sym (ap 
 pub part_comma : (old new nmi suffix : List ℕ) → new ≡ (old ++ nmi) ++ codes "," → (n : ℕ) × (new ≡ old ++ take n (stream_text nmi suffix))
 part_comma old new nmi suffix e =
     (length (nmi ++ codes ","), e ∙ (append_assoc old nmi (codes ",") ∙ ap (λ t. old ++ t) (sym (take-append_seam (nmi ++ codes ",") suffix))))
+
+-- room that one of the three writes lacks, the text of the stream lacks
+stream_length : (nmi suffix : List ℕ) → length (stream_text nmi suffix) ≡ length nmi + 1 + length suffix
+stream_length nmi suffix = length-append (nmi ++ codes ",") suffix ∙ ap (λ n. n + length suffix) (length-append nmi (codes ","))
+
+pub full_front : (nmi suffix : List ℕ) (room held n : ℕ) → n ≤ length nmi + 1 → room < held + n → room < held + length (stream_text nmi suffix)
+full_front nmi suffix room held n within h = omega (arith, within, h, stream_length nmi suffix)
+
+pub full_suffix : {T E : Type 0} (r : Result T E) (nmi suffix : List ℕ) (room held room2 held2 : ℕ) → room ≤ room2 → held2 ≡ held + (length nmi + 1)
+    → OnErr r (room2 < held2 + length suffix) → OnErr r (room < held + length (stream_text nmi suffix))
+full_suffix (Ok x) nmi suffix room held room2 held2 grows len h = tt
+full_suffix (Err e) nmi suffix room held room2 held2 grows len h = omega (arith, grows, len, h, stream_length nmi suffix)
