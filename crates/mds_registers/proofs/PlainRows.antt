@@ -1,14 +1,16 @@
 -- Texts that need no quotation marks, and a row of its parts.
-use Rattle.std.proofs.Common.{◌≡◌, ◌==◌, ℕ, ◌+◌, ◌-◌, ◌<◌, ◌≤◌, ◌/◌, ◌%◌, ◌^◌, Bool, true, false, cond, codes, decimal, List, [], ◌∷◌, ◌++◌, take, drop, refl, arith, append_assoc, ℤ, pos, negsuc, unsigned_abs}
+use Rattle.std.proofs.Common.{◌≡◌, ◌==◌, ℕ, ◌+◌, ◌-◌, ◌<◌, ◌≤◌, ◌/◌, ◌%◌, ◌^◌, Bool, true, false, cond, codes, decimal, List, [], ◌∷◌, ◌++◌, take, drop, get_or, length, refl, ap, arith, append_assoc, ℤ, pos, negsuc, unsigned_abs}
+use Rattle.std.specs.Prelude.{Result, Ok, Err, OnOk, is_ok, if◌then◌else◌}
 use Rattle.std.specs.Char.{digit_char, digit_value, is_ascii_digit}
 use Rattle.std.specs.List.{All, list_all, range_with_len}
 use Rattle.std.specs.Str.Parse.{AllDigits}
 use Rattle.std.proofs.lemmas.Bool.Decides.{nat_tests}
 use Rattle.std.proofs.lemmas.Fmt.{decimal_is_IsNumeral}
+use Rattle.std.proofs.lemmas.List.{take_all}
 use Rattle.std.proofs.lemmas.List.Elements.{All-nil, All-cons, All-append, All-drop, All-from_get_or, All-map, All-take, All-weaker}
 use Rattle.std.proofs.lemmas.List.Folds.{list_any_none}
 use Rattle.std.proofs.lemmas.List.Sums.{AllPass-from_list_all}
-use Rattle.csv.specs.Writing.{default_writer, field_text, fields_text, is_blank, needs_byte, needs_quotes, row_text}
+use Rattle.csv.specs.Writing.{default_writer, escaped, field_text, fields_text, is_blank, needs_byte, needs_quotes, row_text}
 use Rattle.mds_quantity.specs.Quantity.{limit, point_and_decimals, sign_of, six_decimals, written}
 use Rattle.mds_marks.specs.Quality.{QualityValue, is_quality, quality_text, two_digits}
 use Rattle.mds_marks.proofs.Qualities.{is_plain as is_quality_char, plain_text}
@@ -49,6 +51,13 @@ digit_high d = grind (arith, nat_tests)
 two : (n : ℕ) → IsPlain (two_digits n)
 two n = append (digit_char (n / 10) ∷ []) (digit_char (n % 10) ∷ []) (one (digit_char (n / 10)) (digit_high (n / 10))) (one (digit_char (n % 10)) (digit_high (n % 10)))
 
+-- a field between quotation marks, after all of its bytes are written
+pub quoted_put : {T E : Type 0} (r : Result T E) (old mid new field : List ℕ) (i : ℕ) → needs_quotes default_writer field ≡ true
+    → length field ≤ i → mid ≡ old ++ (34 ∷ escaped default_writer (take i field))
+    → new ≡ (if is_ok r then mid ++ (34 ∷ 44 ∷ []) else mid) → OnOk r (new ≡ old ++ closed field)
+quoted_put (Ok x) old mid new field i needs over em en = rw (en, em, take_all i field over, needs) (simp append_assoc)
+quoted_put (Err e) old mid new field i needs over em en = tt
+
 -- the start of a row
 pub plain_start : (date : List ℕ) (minutes : ℕ) → list_all is_ascii_digit date ≡ true → IsPlain (start_text date minutes)
 plain_start date minutes h =
@@ -59,6 +68,27 @@ plain_start date minutes h =
     let dash = one 45 (omega arith) in
     append _ _ (append _ _ (append _ _ (append _ _ (append _ _ (append _ _ (append _ _ (append _ _ year dash) month) dash) day)
     (one 84 (omega arith))) (two (minutes / 60))) (one 58 (omega arith))) (two (minutes % 60))
+
+-- the start of a row, byte by byte
+time_spread : (hours ones : List ℕ) (a b c d : ℕ) → hours ≡ a ∷ b ∷ [] → ones ≡ c ∷ d ∷ []
+    → get_or hours 0 0 ∷ get_or hours 1 0 ∷ 58 ∷ get_or ones 0 0 ∷ get_or ones 1 0 ∷ [] ≡ a ∷ b ∷ 58 ∷ c ∷ d ∷ []
+time_spread hours ones a b c d eh eo = rw (eh, eo) refl
+
+pub start_made : (date hours ones : List ℕ) (minutes : ℕ) → length date ≡ 8 → hours ≡ two_digits (minutes / 60)
+    → ones ≡ two_digits (minutes % 60) → get_or date 0 0 ∷ get_or date 1 0 ∷ get_or date 2 0 ∷ get_or date 3 0 ∷ 45
+    ∷ get_or date 4 0 ∷ get_or date 5 0 ∷ 45 ∷ get_or date 6 0 ∷ get_or date 7 0 ∷ 84
+    ∷ get_or hours 0 0 ∷ get_or hours 1 0 ∷ 58 ∷ get_or ones 0 0 ∷ get_or ones 1 0 ∷ [] ≡ start_text date minutes
+start_made [] hours ones minutes eight eh eo = absurd (omega arith)
+start_made (a ∷ []) hours ones minutes eight eh eo = absurd (omega arith)
+start_made (a ∷ b ∷ []) hours ones minutes eight eh eo = absurd (omega arith)
+start_made (a ∷ b ∷ c ∷ []) hours ones minutes eight eh eo = absurd (omega arith)
+start_made (a ∷ b ∷ c ∷ d ∷ []) hours ones minutes eight eh eo = absurd (omega arith)
+start_made (a ∷ b ∷ c ∷ d ∷ e ∷ []) hours ones minutes eight eh eo = absurd (omega arith)
+start_made (a ∷ b ∷ c ∷ d ∷ e ∷ f ∷ []) hours ones minutes eight eh eo = absurd (omega arith)
+start_made (a ∷ b ∷ c ∷ d ∷ e ∷ f ∷ g ∷ []) hours ones minutes eight eh eo = absurd (omega arith)
+start_made (a ∷ b ∷ c ∷ d ∷ e ∷ f ∷ g ∷ h ∷ []) hours ones minutes eight eh eo =
+    ap (λ rest. a ∷ b ∷ c ∷ d ∷ 45 ∷ e ∷ f ∷ 45 ∷ g ∷ h ∷ 84 ∷ rest) (time_spread hours ones _ _ _ _ eh eo)
+start_made (a ∷ b ∷ c ∷ d ∷ e ∷ f ∷ g ∷ h ∷ i ∷ date) hours ones minutes eight eh eo = absurd (omega arith)
 
 -- the text of a quality
 pub plain_quality : (q : QualityValue) → is_quality q.flag q.method ≡ true → IsPlain (quality_text q)
