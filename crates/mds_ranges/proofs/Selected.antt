@@ -6,7 +6,7 @@ use Rattle.std.specs.List.{All, AllPairs}
 use Rattle.std.specs.Ordering.{nat_cmp, ordering_then}
 use Rattle.std.specs.declared.cmp.Ordering.TheVariants.{Equal, Less}
 use Rattle.std.proofs.lemmas.Bool.{cases_lt}
-use Rattle.std.proofs.lemmas.List.{length-append, length-map, map-append, take_all, take_more}
+use Rattle.std.proofs.lemmas.List.{length-append, length-map, map-append, nil_from_length, take_all, take_more}
 use Rattle.std.proofs.lemmas.List.Elements.{All-append, All-head, All-nil, All-push, All-tail, All-weaker}
 use Rattle.mds_names.specs.declared.stream.Stream.{Stream}
 use Rattle.mds_terms.specs.Details.{DetailsValue}
@@ -125,6 +125,14 @@ names_up nmi suffixes up =
     let same : slice_cmp nat_cmp nmi nmi ≡ Equal = tied_itself nat_list_cmp_total nmi in
     map_pairs (named nmi) (λ a b. stream_cmp a b ≡ Less) suffixes (λ i j d less within.
     ap (λ o. ordering_then o (slice_cmp nat_cmp (get_or suffixes i d) (get_or suffixes j d))) same ∙ up i j d less within)
+
+-- no suffix names no stream
+pub none_named : (nmi : List ℕ) (suffixes : List (List ℕ)) (n : ℕ) (streams : List SelectedStream) → length suffixes ≡ 0
+    → map stream_in streams ≡ map (named nmi) (take n suffixes) → streams ≡ []
+none_named nmi [] n streams none are =
+    nil_from_length streams (sym (length-map streams stream_in) ∙ ap length are
+    ∙ ap (λ (l : List (List ℕ)). length (map (named nmi) l)) (take_all n [] (omega arith)))
+none_named nmi (suffix ∷ suffixes) n streams none are = absurd (omega arith)
 
 pub streams_selected : (w : World) (nmi : List ℕ) (suffixes : List (List ℕ)) (first last n : ℕ)
     (streams : List SelectedStream) → length suffixes ≤ n → Ascend suffixes
