@@ -20,9 +20,9 @@ use Rattle.mds_tables.specs.Cells.{day_cells}
 use Rattle.mds_tables.specs.RowFacts.{natural_at, stream_in}
 use Rattle.mds_tables.specs.Stores.{Begins, Selects}
 use Rattle.mds_tables.specs.Tables.{form_tree, head_tree}
-use Rattle.mds_selects.proofs.Adding.{member_at}
-use Rattle.mds_selects.proofs.Listed.{day_on, first_shown, on_day}
-use Rattle.mds_selects.proofs.TypedRows.{head_row}
+use Rattle.mds_tables.proofs.Adding.{member_at}
+use Rattle.mds_tables.proofs.Listed.{day_on, first_shown, on_day}
+use Rattle.mds_tables.proofs.TypedRows.{head_row}
 use Rattle.mds_pack_rows.specs.Current.{current_more, current_schema, current_world}
 use Rattle.mds_pack_rows.specs.FormLayout.{unit_in}
 use Rattle.mds_pack_rows.specs.PackTables.{pack_tree}

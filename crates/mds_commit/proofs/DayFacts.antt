@@ -26,10 +26,10 @@ use Rattle.mds_tables.specs.Cells.{day_cells, detail_cells, number_cell}
 use Rattle.mds_tables.specs.RowFacts.{int_at, natural, natural_at, optional, optional_at, text_at}
 use Rattle.mds_tables.specs.Stores.{Begins, Selects}
 use Rattle.mds_tables.specs.Tables.{daydetail_tree}
-use Rattle.mds_selects.specs.Shown.{SaysDay}
-use Rattle.mds_selects.proofs.Listed.{day_on, on_day}
-use Rattle.mds_selects.proofs.MemberLemmas.{place_of}
-use Rattle.mds_selects.proofs.TypedRows.{begins_at, begins_by, optional_back, small, small_option, some_cell}
+use Rattle.mds_tables.specs.Shown.{SaysDay}
+use Rattle.mds_tables.proofs.Listed.{day_on, on_day}
+use Rattle.mds_tables.proofs.MemberLemmas.{place_of}
+use Rattle.mds_tables.proofs.TypedRows.{begins_at, begins_by, optional_back, small, small_option, some_cell}
 use Rattle.mds_pack_rows.specs.Current.{current_layout, current_schema, current_world}
 use Rattle.mds_commit.specs.Shown.{AreLatestFirst, AreLeft, HasRow, IsBelow, IsDetailRow, IsTold, ShowsDaysWith, ShowsDetails, ShowsNearest, ShowsRange, TellsDays, TellsFirst, details_columns, range_columns, shown_day, shown_details}
 use Rattle.mds_commit.proofs.DetailCells.{detail_in, detail_is, named_in, row_cells}

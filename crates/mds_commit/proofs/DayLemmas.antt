@@ -23,8 +23,8 @@ use Rattle.mds_tables.specs.RowFacts.{natural_at, stream_in, text_at, unit_named
 use Rattle.mds_tables.specs.Stores.{Selects}
 use Rattle.mds_tables.specs.Tables.{form_tree, head_tree}
 use Rattle.mds_tables.proofs.Named.{of_version}
-use Rattle.mds_selects.proofs.Listed.{day_on, on_day}
-use Rattle.mds_selects.proofs.TypedRows.{head_row}
+use Rattle.mds_tables.proofs.Listed.{day_on, on_day}
+use Rattle.mds_tables.proofs.TypedRows.{head_row}
 use Rattle.mds_pack_rows.specs.Current.{current_layout, current_more, current_packs, current_schema, current_world}
 use Rattle.mds_pack_rows.specs.DayRows.{shown_facts}
 use Rattle.mds_pack_rows.specs.FormLayout.{unit_in}

@@ -15,7 +15,7 @@ use Rattle.mds_world.proofs.Lists.{append_left, append_right, member_append}
 use Rattle.mds_world.proofs.Sets.{or_left, or_right, split_or}
 use Rattle.mds_world.specs.Lists.{Member}
 use Rattle.mds_tables.specs.Cells.{number_cell}
-use Rattle.mds_selects.proofs.MemberLemmas.{place_of}
+use Rattle.mds_tables.proofs.MemberLemmas.{place_of}
 use Rattle.mds_commit.specs.Shown.{AreLeft}
 
 -- ---- a look-up finds just what is there

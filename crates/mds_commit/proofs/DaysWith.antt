@@ -19,13 +19,13 @@ use Rattle.mds_tables.specs.Cells.{detail_cells, number_cell, optional_cell}
 use Rattle.mds_tables.specs.RowFacts.{int_at}
 use Rattle.mds_tables.specs.Stores.{Begins, FindsOf}
 use Rattle.mds_tables.specs.Tables.{daydetail_tree}
-use Rattle.mds_selects.proofs.KeyLemmas.{cells_equal, equal_cells}
-use Rattle.mds_selects.proofs.MemberLemmas.{selects_by}
-use Rattle.mds_selects.proofs.QueryLemmas.{finds}
-use Rattle.mds_selects.proofs.SelectLemmas.{Picks}
-use Rattle.mds_selects.proofs.SelectTexts.{columns_at}
-use Rattle.mds_selects.proofs.TypedLemmas.{IsAlike, both}
-use Rattle.mds_selects.proofs.TypedRows.{begins_at, begins_by, some_cell}
+use Rattle.mds_tables.proofs.KeyLemmas.{cells_equal, equal_cells}
+use Rattle.mds_tables.proofs.MemberLemmas.{selects_by}
+use Rattle.mds_tables.proofs.QueryLemmas.{finds}
+use Rattle.mds_tables.proofs.SelectLemmas.{Picks}
+use Rattle.mds_tables.proofs.SelectTexts.{columns_at}
+use Rattle.mds_tables.proofs.TypedLemmas.{IsAlike, both}
+use Rattle.mds_tables.proofs.TypedRows.{begins_at, begins_by, some_cell}
 use Rattle.mds_pack_rows.specs.Current.{current_layout, current_schema}
 use Rattle.mds_commit.specs.Shown.{ShowsDaysWith, days_cells}
 use Rattle.mds_commit.proofs.DetailCells.{HasCells, row_cells}

@@ -17,10 +17,10 @@ use Rattle.mds_tables.specs.Cells.{day_cells, detail_cells}
 use Rattle.mds_tables.specs.Layouts.{Layout, world_with}
 use Rattle.mds_tables.specs.RowFacts.{detail_fact, details_from, int_at, natural_at, stream_in, text_at}
 use Rattle.mds_tables.specs.Tables.{daydetail_tree}
-use Rattle.mds_selects.proofs.Named.{Names, of_detail}
-use Rattle.mds_selects.proofs.QueryLemmas.{kept}
-use Rattle.mds_selects.proofs.TypedLemmas.{AreFor, AreTyped, alike, both}
-use Rattle.mds_selects.proofs.TypedRows.{HasKeyCells}
+use Rattle.mds_tables.proofs.Named.{Names, of_detail}
+use Rattle.mds_tables.proofs.QueryLemmas.{kept}
+use Rattle.mds_tables.proofs.TypedLemmas.{AreFor, AreTyped, alike, both}
+use Rattle.mds_tables.proofs.TypedRows.{HasKeyCells}
 use Rattle.mds_pack_rows.specs.Current.{current_more, current_schema}
 use Rattle.mds_pack_rows.specs.DailyLayout.{daily_layout, daily_own, day_details, world_3}
 use Rattle.mds_pack_rows.specs.DailyTables.{daydetail_table}

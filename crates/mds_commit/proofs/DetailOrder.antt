@@ -27,11 +27,11 @@ use Rattle.mds_tables.specs.Cells.{day_cells}
 use Rattle.mds_tables.specs.RowFacts.{int_at, natural, natural_at, optional, text_at}
 use Rattle.mds_tables.specs.Stores.{FindsOf}
 use Rattle.mds_tables.specs.Tables.{daydetail_tree}
-use Rattle.mds_selects.proofs.KeyLemmas.{counted, tests}
-use Rattle.mds_selects.proofs.MemberLemmas.{all_of, filter_in, moved, second, selects}
-use Rattle.mds_selects.proofs.QueryLemmas.{finds}
-use Rattle.mds_selects.proofs.SelectLemmas.{Picks, passes, shows}
-use Rattle.mds_selects.proofs.SelectTexts.{columns_at}
+use Rattle.mds_tables.proofs.KeyLemmas.{counted, tests}
+use Rattle.mds_tables.proofs.MemberLemmas.{all_of, filter_in, moved, second, selects}
+use Rattle.mds_tables.proofs.QueryLemmas.{finds}
+use Rattle.mds_tables.proofs.SelectLemmas.{Picks, passes, shows}
+use Rattle.mds_tables.proofs.SelectTexts.{columns_at}
 use Rattle.mds_pack_rows.specs.Current.{current_layout, current_schema}
 use Rattle.mds_pack_rows.specs.DailyTables.{daydetail_table}
 use Rattle.mds_commit.specs.Shown.{AreLatestFirst, IsDetailRow, ShowsDetails, details_columns, shown_details}

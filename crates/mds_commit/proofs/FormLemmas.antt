@@ -20,7 +20,7 @@ use Rattle.mds_tables.specs.Tables.{form_tree, head_tree}
 use Rattle.mds_tables.specs.Parts.{Part, Says}
 use Rattle.mds_tables.specs.Writing.{IsMore}
 use Rattle.mds_tables.proofs.RowLemmas.{Unnamed, more}
-use Rattle.mds_selects.proofs.MemberLemmas.{moved}
+use Rattle.mds_tables.proofs.MemberLemmas.{moved}
 use Rattle.mds_pack_rows.specs.Current.{current_schema}
 use Rattle.mds_pack_rows.specs.FormLayout.{day_in, form_fact, form_heads, unit_in}
 use Rattle.mds_commit.specs.Committing.{KeepsUnits}

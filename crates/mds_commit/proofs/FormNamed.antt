@@ -15,9 +15,9 @@ use Rattle.mds_tables.specs.Cells.{day_cells}
 use Rattle.mds_tables.specs.RowFacts.{natural_at, stream_in}
 use Rattle.mds_tables.specs.Tables.{form_tree, head_tree}
 use Rattle.mds_tables.proofs.Named.{of_head}
-use Rattle.mds_selects.proofs.QueryLemmas.{kept}
-use Rattle.mds_selects.proofs.TypedLemmas.{AreFor, AreTyped, alike, both}
-use Rattle.mds_selects.proofs.TypedRows.{HasKeyCells}
+use Rattle.mds_tables.proofs.QueryLemmas.{kept}
+use Rattle.mds_tables.proofs.TypedLemmas.{AreFor, AreTyped, alike, both}
+use Rattle.mds_tables.proofs.TypedRows.{HasKeyCells}
 use Rattle.mds_pack_rows.specs.Current.{current_layout, current_more, current_schema, current_world}
 use Rattle.mds_pack_rows.specs.FormLayout.{form_fact, unit_in}
 use Rattle.mds_pack_rows.specs.FormTables.{form_table}

@@ -11,8 +11,8 @@ use Rattle.sqlite_sql.specs.declared.ops.CompareOp.TheVariants.{Ge, Le}
 use Rattle.sqlite_tied.specs.Compute.{everything}
 use Rattle.sqlite_value.specs.declared.keys.Key.{Key}
 use Rattle.mds_tables.specs.Tables.{form_tree, head_tree, period_tree, stream_columns}
-use Rattle.mds_selects.specs.Shown.{falling, rising}
-use Rattle.mds_selects.proofs.SelectTexts.{columns_at, equals, first_by, from_one}
+use Rattle.mds_tables.specs.Shown.{falling, rising}
+use Rattle.mds_tables.proofs.SelectTexts.{columns_at, equals, first_by, from_one}
 use Rattle.mds_pack_rows.specs.Current.{current_schema}
 use Rattle.mds_pack_rows.specs.PackTables.{pack_tree, update_columns}
 use Rattle.mds_commit.specs.Cuts.{day_columns, range_columns}

@@ -9,7 +9,7 @@ use Rattle.std.specs.Ordering.{MatchOrdering, is_lt, nat_cmp}
 use Rattle.std.specs.declared.cmp.Ordering.{Ordering}
 use Rattle.std.specs.declared.cmp.Ordering.TheVariants.{Less, Equal, Greater}
 use Rattle.mds_world.specs.Lists.{Member}
-use Rattle.mds_selects.proofs.MemberLemmas.{place_of}
+use Rattle.mds_tables.proofs.MemberLemmas.{place_of}
 
 -- what holds of all of a list
 pub of_all : {X : Type 0} (P : X → Type 0) (xs : List X) → All P xs → (x : X) → Member x xs → P x

@@ -29,14 +29,14 @@ use Rattle.mds_tables.specs.Cells.{day_cells, number_cell, stream_cells}
 use Rattle.mds_tables.specs.RowFacts.{int_at}
 use Rattle.mds_tables.specs.Stores.{Begins, FindsOf}
 use Rattle.mds_tables.specs.Tables.{daydetail_tree}
-use Rattle.mds_selects.specs.Shown.{falling}
-use Rattle.mds_selects.proofs.KeyLemmas.{cells_equal, equal_cells}
-use Rattle.mds_selects.proofs.MemberLemmas.{moved, place_of, second, selects_by}
-use Rattle.mds_selects.proofs.QueryLemmas.{finds_by}
-use Rattle.mds_selects.proofs.SelectLemmas.{Picks, passes, picks_first, shows}
-use Rattle.mds_selects.proofs.SelectTexts.{columns_at}
-use Rattle.mds_selects.proofs.TypedLemmas.{both}
-use Rattle.mds_selects.proofs.TypedRows.{HasKeyCells, begins_at, begins_by}
+use Rattle.mds_tables.specs.Shown.{falling}
+use Rattle.mds_tables.proofs.KeyLemmas.{cells_equal, equal_cells}
+use Rattle.mds_tables.proofs.MemberLemmas.{moved, place_of, second, selects_by}
+use Rattle.mds_tables.proofs.QueryLemmas.{finds_by}
+use Rattle.mds_tables.proofs.SelectLemmas.{Picks, passes, picks_first, shows}
+use Rattle.mds_tables.proofs.SelectTexts.{columns_at}
+use Rattle.mds_tables.proofs.TypedLemmas.{both}
+use Rattle.mds_tables.proofs.TypedRows.{HasKeyCells, begins_at, begins_by}
 use Rattle.mds_pack_rows.specs.Current.{current_layout, current_schema}
 use Rattle.mds_commit.specs.Shown.{HasRow, ShowsNearest}
 use Rattle.mds_commit.proofs.DetailCells.{row_cells}

@@ -23,10 +23,10 @@ use Rattle.mds_tables.specs.Cells.{unit_cells}
 use Rattle.mds_tables.specs.HeadTabling.{reads_back}
 use Rattle.mds_tables.specs.RowFacts.{int_at, text_at, unit_named}
 use Rattle.mds_tables.specs.Tables.{day_key, head_table, head_tree}
-use Rattle.mds_selects.proofs.KeyLemmas.{cells_equal, truth_of}
-use Rattle.mds_selects.proofs.MemberLemmas.{all_has}
-use Rattle.mds_selects.proofs.TypedLemmas.{both}
-use Rattle.mds_selects.proofs.TypedRows.{head_row, small}
+use Rattle.mds_tables.proofs.KeyLemmas.{cells_equal, truth_of}
+use Rattle.mds_tables.proofs.MemberLemmas.{all_has}
+use Rattle.mds_tables.proofs.TypedLemmas.{both}
+use Rattle.mds_tables.proofs.TypedRows.{head_row, small}
 use Rattle.mds_pack_rows.specs.Current.{current_more, current_schema}
 use Rattle.mds_pack_rows.specs.FormLayout.{day_in}
 use Rattle.mds_commit.specs.FormPutting.{SayUnits, day_of}

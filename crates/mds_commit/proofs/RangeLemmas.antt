@@ -30,12 +30,12 @@ use Rattle.mds_tables.specs.Layouts.{Layout}
 use Rattle.mds_tables.specs.RowFacts.{int_at}
 use Rattle.mds_tables.specs.Stores.{FindsOf}
 use Rattle.mds_tables.specs.Tables.{schema_with}
-use Rattle.mds_selects.proofs.KeyLemmas.{cells_equal, counted, equal_cells, truth_of}
-use Rattle.mds_selects.proofs.MemberLemmas.{selects_by}
-use Rattle.mds_selects.proofs.QueryLemmas.{AsksFor, finds}
-use Rattle.mds_selects.proofs.SelectTexts.{columns_at}
-use Rattle.mds_selects.proofs.TypedLemmas.{both}
-use Rattle.mds_selects.proofs.TypedRows.{HasKeyCells, begins_at, begins_by}
+use Rattle.mds_tables.proofs.KeyLemmas.{cells_equal, counted, equal_cells, truth_of}
+use Rattle.mds_tables.proofs.MemberLemmas.{selects_by}
+use Rattle.mds_tables.proofs.QueryLemmas.{AsksFor, finds}
+use Rattle.mds_tables.proofs.SelectTexts.{columns_at}
+use Rattle.mds_tables.proofs.TypedLemmas.{both}
+use Rattle.mds_tables.proofs.TypedRows.{HasKeyCells, begins_at, begins_by}
 use Rattle.mds_commit.specs.Ranges.{IsInRange, SelectsRange}
 use Rattle.mds_commit.proofs.FormTexts.{range_tests}
 

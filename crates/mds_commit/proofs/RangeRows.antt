@@ -31,13 +31,13 @@ use Rattle.mds_tables.specs.Cells.{day_cells, number_cell, range_cells}
 use Rattle.mds_tables.specs.RowFacts.{int_at, natural, natural_at, text_at}
 use Rattle.mds_tables.specs.Stores.{FindsOf}
 use Rattle.mds_tables.specs.Tables.{daydetail_tree}
-use Rattle.mds_selects.proofs.KeyLemmas.{cells_equal, counted, equal_cells}
-use Rattle.mds_selects.proofs.MemberLemmas.{all_of, filter_in, moved, second, selects_by}
-use Rattle.mds_selects.proofs.QueryLemmas.{finds}
-use Rattle.mds_selects.proofs.SelectLemmas.{Picks, passes, shows}
-use Rattle.mds_selects.proofs.SelectTexts.{columns_at}
-use Rattle.mds_selects.proofs.TypedLemmas.{both}
-use Rattle.mds_selects.proofs.TypedRows.{HasKeyCells, begins_at, begins_by}
+use Rattle.mds_tables.proofs.KeyLemmas.{cells_equal, counted, equal_cells}
+use Rattle.mds_tables.proofs.MemberLemmas.{all_of, filter_in, moved, second, selects_by}
+use Rattle.mds_tables.proofs.QueryLemmas.{finds}
+use Rattle.mds_tables.proofs.SelectLemmas.{Picks, passes, shows}
+use Rattle.mds_tables.proofs.SelectTexts.{columns_at}
+use Rattle.mds_tables.proofs.TypedLemmas.{both}
+use Rattle.mds_tables.proofs.TypedRows.{HasKeyCells, begins_at, begins_by}
 use Rattle.mds_pack_rows.specs.Current.{current_layout, current_schema}
 use Rattle.mds_commit.specs.Shown.{AreByDay, IsDetailRow, IsInRange, ShowsRange, range_columns}
 use Rattle.mds_commit.proofs.DetailCells.{row_cells}

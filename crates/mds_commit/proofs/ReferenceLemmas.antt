@@ -18,11 +18,11 @@ use Rattle.mds_names.specs.declared.stream.Stream.{Stream}
 use Rattle.mds_world.specs.Lists.{Member}
 use Rattle.mds_tables.specs.RowFacts.{int_at, natural, natural_at, text_at}
 use Rattle.mds_tables.specs.Tables.{day_key, form_tree, head_tree, to_head}
-use Rattle.mds_selects.proofs.KeyLemmas.{equal_cells}
-use Rattle.mds_selects.proofs.MemberLemmas.{all_has}
-use Rattle.mds_selects.proofs.QueryLemmas.{kept}
-use Rattle.mds_selects.proofs.TypedLemmas.{AreFor, AreTyped, alike, both}
-use Rattle.mds_selects.proofs.TypedRows.{HasKeyCells, head_row}
+use Rattle.mds_tables.proofs.KeyLemmas.{equal_cells}
+use Rattle.mds_tables.proofs.MemberLemmas.{all_has}
+use Rattle.mds_tables.proofs.QueryLemmas.{kept}
+use Rattle.mds_tables.proofs.TypedLemmas.{AreFor, AreTyped, alike, both}
+use Rattle.mds_tables.proofs.TypedRows.{HasKeyCells, head_row}
 use Rattle.mds_pack_rows.specs.Current.{after_details, current_more, current_schema, current_tables}
 use Rattle.mds_pack_rows.specs.DailyTables.{daydetails_then}
 use Rattle.mds_pack_rows.specs.FormLayout.{day_in}

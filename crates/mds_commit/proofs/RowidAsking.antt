@@ -26,11 +26,11 @@ use Rattle.sqlite_value.specs.declared.keys.Key.{Key}
 use Rattle.mds_world.proofs.Lists.{in_map, map_in}
 use Rattle.mds_world.specs.Lists.{Member}
 use Rattle.mds_tables.specs.Tables.{More, head_tree, schema_with}
-use Rattle.mds_selects.specs.Shown.{rising}
-use Rattle.mds_selects.proofs.MemberLemmas.{moved, place_of}
-use Rattle.mds_selects.proofs.QueryLemmas.{shown_same}
-use Rattle.mds_selects.proofs.SelectLemmas.{Picks, passes, picks_first, shows}
-use Rattle.mds_selects.proofs.SelectTexts.{columns_at, first_of, from_one}
+use Rattle.mds_tables.specs.Shown.{rising}
+use Rattle.mds_tables.proofs.MemberLemmas.{moved, place_of}
+use Rattle.mds_tables.proofs.QueryLemmas.{shown_same}
+use Rattle.mds_tables.proofs.SelectLemmas.{Picks, passes, picks_first, shows}
+use Rattle.mds_tables.proofs.SelectTexts.{columns_at, first_of, from_one}
 use Rattle.mds_pack_rows.specs.PackTables.{packs_then}
 use Rattle.mds_pack_rows.specs.Putting.{FindsThere}
 use Rattle.mds_pack_rows.proofs.AskLemmas.{fails_kept, shown_kept, shown_on}

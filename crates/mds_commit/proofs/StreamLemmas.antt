@@ -28,9 +28,9 @@ use Rattle.mds_tables.specs.RowFacts.{int_at, natural, natural_at, period_fact, 
 use Rattle.mds_tables.specs.Stores.{Begins, Selects}
 use Rattle.mds_tables.specs.Tables.{form_tree, head_tree, period_tree, stream_columns}
 use Rattle.mds_tables.proofs.Named.{of_period}
-use Rattle.mds_selects.specs.Shown.{SaysDay, SelectsFirst, falling, rising}
-use Rattle.mds_selects.proofs.Listed.{on_stream, stream_on}
-use Rattle.mds_selects.proofs.TypedRows.{period_row}
+use Rattle.mds_tables.specs.Shown.{SaysDay, SelectsFirst, falling, rising}
+use Rattle.mds_tables.proofs.Listed.{on_stream, stream_on}
+use Rattle.mds_tables.proofs.TypedRows.{period_row}
 use Rattle.mds_pack_rows.specs.Current.{current_layout, current_more, current_schema, current_world}
 use Rattle.mds_commit.specs.FormRows.{form_day}
 use Rattle.mds_commit.specs.StreamRows.{AreStreamsIn, SaysStream, ShowsStream}

@@ -8,7 +8,7 @@ use Rattle.mds_terms.specs.Details.{DetailsValue}
 use Rattle.mds_world.proofs.Orders.{le_or_lt}
 use Rattle.mds_world.proofs.Lists.{append_left, append_right, in_map, map_in, member_append}
 use Rattle.mds_world.specs.Lists.{Member}
-use Rattle.mds_selects.proofs.MemberLemmas.{place_of}
+use Rattle.mds_tables.proofs.MemberLemmas.{place_of}
 use Rattle.mds_commit.specs.Shown.{AreByDay, ComesFirst, EndsOn, IsBelow, IsTold, TellsDays, TellsRow, shown_day, shown_details}
 use Rattle.mds_commit.proofs.DayFacts.{below_self}
 

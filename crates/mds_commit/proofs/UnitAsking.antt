@@ -32,11 +32,11 @@ use Rattle.mds_tables.proofs.CallLemmas.{keeps_same, survives_more, survives_sam
 use Rattle.mds_tables.specs.Cells.{range_cells}
 use Rattle.mds_tables.specs.RowFacts.{int_at, natural_at, text_at, unit_named}
 use Rattle.mds_tables.specs.Tables.{More, head_tree, schema_with}
-use Rattle.mds_selects.proofs.KeyLemmas.{cells_equal, counted, truth_of}
-use Rattle.mds_selects.proofs.MemberLemmas.{all_has, selects_by}
-use Rattle.mds_selects.proofs.QueryLemmas.{AsksFor}
-use Rattle.mds_selects.proofs.SelectTexts.{columns_at, equals}
-use Rattle.mds_selects.proofs.TypedRows.{HasKeyCells, head_row, small}
+use Rattle.mds_tables.proofs.KeyLemmas.{cells_equal, counted, truth_of}
+use Rattle.mds_tables.proofs.MemberLemmas.{all_has, selects_by}
+use Rattle.mds_tables.proofs.QueryLemmas.{AsksFor}
+use Rattle.mds_tables.proofs.SelectTexts.{columns_at, equals}
+use Rattle.mds_tables.proofs.TypedRows.{HasKeyCells, head_row, small}
 use Rattle.mds_pack_rows.specs.PackTables.{packs_then}
 use Rattle.mds_pack_rows.specs.Putting.{FindsThere}
 use Rattle.mds_pack_rows.proofs.AskLemmas.{fails_kept, finds_picked, shown_kept, shown_on}

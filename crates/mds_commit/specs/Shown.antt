@@ -14,7 +14,7 @@ use Rattle.mds_tables.specs.Cells.{day_cells, detail_cells, number_cell, optiona
 use Rattle.mds_tables.specs.RowFacts.{details_from, natural_at, optional_at}
 use Rattle.mds_tables.specs.Stores.{Begins, Selects}
 use Rattle.mds_tables.specs.Tables.{daydetail_tree}
-use Rattle.mds_selects.specs.Written.{IsDay, IsMoment}
+use Rattle.mds_tables.specs.Written.{IsDay, IsMoment}
 
 -- one of the rows begins with these columns
 abbrev pub HasRow : Trees → Row → Type 0

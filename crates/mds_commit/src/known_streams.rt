@@ -10,16 +10,15 @@ ghost use Rattle.mds_keeper.specs.Queries.{AreKnownStreams, IsLastDayOf, stream_
 ghost use Rattle.mds_tables.specs.Cells.{number_cell};
 ghost use Rattle.mds_tables.specs.Queries.{Answers};
 ghost use Rattle.mds_tables.specs.Stores.{HoldsOf};
-ghost use Rattle.mds_selects.specs.Added.{AreAdded, IsAdded};
-ghost use Rattle.mds_selects.specs.Shown.{SaysDay};
-ghost use Rattle.mds_selects.specs.Written.{IsDay};
+ghost use Rattle.mds_tables.specs.Added.{AreAdded, IsAdded};
+ghost use Rattle.mds_tables.specs.Shown.{SaysDay};
+ghost use Rattle.mds_tables.specs.Written.{IsDay};
 ghost use Rattle.mds_pack_rows.specs.Current.{current_layout, current_world};
 ghost use Rattle.mds_commit.specs.StreamRows.{AreStreamsIn, SaysStream};
 
 use crate::statements::{first_day_rows, form_stream_rows, last_day_rows, period_stream_rows};
 use mds_keeper::Unavailable;
-use mds_selects::{day_at, in_order, put, stream_in};
-use mds_tables::{or_unavailable, ready, told};
+use mds_tables::{day_at, in_order, or_unavailable, put, ready, stream_in, told};
 use mds_terms::{Day, Stream};
 use sqlite::{Alter, Connection, Row};
 use std::alloc::Global;

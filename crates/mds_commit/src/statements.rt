@@ -6,7 +6,7 @@ ghost use Rattle.mds_tables.specs.Cells as row;
 ghost use Rattle.mds_tables.specs.Queries.{QueriesOf};
 ghost use Rattle.mds_tables.specs.Stores.{Selects};
 ghost use Rattle.mds_tables.specs.Tables.{form_tree, head_tree, period_tree, stream_columns};
-ghost use Rattle.mds_selects.specs.Shown.{SelectsFirst, falling, rising};
+ghost use Rattle.mds_tables.specs.Shown.{SelectsFirst, falling, rising};
 ghost use Rattle.mds_pack_rows.specs.Current.{current_layout};
 ghost use Rattle.mds_pack_rows.specs.PackTables.{pack_tree, update_columns};
 ghost use Rattle.mds_commit.specs.Cuts.{day_columns, range_columns};

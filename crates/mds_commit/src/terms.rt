@@ -9,12 +9,11 @@ ghost use Rattle.mds_terms.specs.Details.{DetailsValue};
 ghost use Rattle.mds_terms.specs.Printable.{is_printable};
 ghost use Rattle.mds_tables.specs.Cells.{number_cell, optional_cell};
 ghost use Rattle.mds_tables.specs.RowFacts.{natural_at, optional_at};
-ghost use Rattle.mds_selects.specs.Written.{IsDay};
+ghost use Rattle.mds_tables.specs.Written.{IsDay};
 ghost use Rattle.mds_commit.specs.Shown.{IsDetailRow, IsRowOf, shown_details, text_length};
 
 use mds_keeper::Unavailable;
-use mds_selects::{int_at, text_at};
-use mds_tables::told;
+use mds_tables::{int_at, text_at, told};
 use mds_terms::{Day, Details, DetailsRef, PrintableText};
 use sqlite::Row;
 use std::alloc::{AllocError, Global};

@@ -12,8 +12,7 @@ ghost use Rattle.mds_commit.specs.Units.{AsksThere, HaveRowids, IsLike, SayUnit,
 
 use mds_keeper::Unavailable;
 use mds_quantity::Unit;
-use mds_selects::{int_at, unit_at};
-use mds_tables::{TOGETHER, or_unavailable, range_cells};
+use mds_tables::{TOGETHER, int_at, or_unavailable, range_cells, unit_at};
 use mds_terms::{Day, Stream};
 use mds_world::Head;
 use sqlite::{Alter, Row, Transaction};

@@ -32,9 +32,9 @@ use Rattle.mds_tables.specs.Parts.{detail_part}
 use Rattle.mds_tables.specs.Writing.{Puts}
 use Rattle.mds_tables.proofs.FrameLemmas.{frames_none}
 use Rattle.mds_tables.proofs.PutLemmas.{none_there, puts_then}
-use Rattle.mds_selects.proofs.Listed.{on_stream, stream_on}
-use Rattle.mds_selects.proofs.MemberLemmas.{place_of}
-use Rattle.mds_selects.proofs.TypedRows.{HasKeyCells}
+use Rattle.mds_tables.proofs.Listed.{on_stream, stream_on}
+use Rattle.mds_tables.proofs.MemberLemmas.{place_of}
+use Rattle.mds_tables.proofs.TypedRows.{HasKeyCells}
 use Rattle.mds_pack_rows.specs.DailyTables.{daydetails, schema_3}
 use Rattle.mds_commit.specs.Shown.{AreLatestFirst, IsDetailRow, shown_details}
 use Rattle.mds_migrate.specs.Dating.{AreGreatestOf, AreOfHeads, Dates, DatesDays, IsKnown, IsKnownOf, IsLatest, IsOf, IsOfHead, IsOfKnownDay, Knows, SaysDetails, SaysFirst, ShowsDetailsOf, all_on, known_on, shown_columns}

@@ -17,13 +17,13 @@ use Rattle.mds_world.specs.Lists.{Member}
 use Rattle.mds_tables.specs.Cells.{stream_cells}
 use Rattle.mds_tables.specs.RowFacts.{int_at, text_at}
 use Rattle.mds_tables.specs.Tables.{More, detail_table, detail_tree, schema_with}
-use Rattle.mds_selects.proofs.KeyLemmas.{tests}
-use Rattle.mds_selects.proofs.MemberLemmas.{all_of, filter_in, moved, selects}
-use Rattle.mds_selects.proofs.QueryLemmas.{kept, stream_for}
-use Rattle.mds_selects.proofs.SelectLemmas.{Picks, passes, shows}
-use Rattle.mds_selects.proofs.SelectTexts.{columns_at}
-use Rattle.mds_selects.proofs.TypedLemmas.{AreFor, AreTyped, alike, both}
-use Rattle.mds_selects.proofs.TypedRows.{HasKeyCells}
+use Rattle.mds_tables.proofs.KeyLemmas.{tests}
+use Rattle.mds_tables.proofs.MemberLemmas.{all_of, filter_in, moved, selects}
+use Rattle.mds_tables.proofs.QueryLemmas.{kept, stream_for}
+use Rattle.mds_tables.proofs.SelectLemmas.{Picks, passes, shows}
+use Rattle.mds_tables.proofs.SelectTexts.{columns_at}
+use Rattle.mds_tables.proofs.TypedLemmas.{AreFor, AreTyped, alike, both}
+use Rattle.mds_tables.proofs.TypedRows.{HasKeyCells}
 use Rattle.mds_pack_rows.specs.PackTables.{packs_then}
 use Rattle.mds_pack_rows.specs.Putting.{FindsThere}
 use Rattle.mds_pack_rows.proofs.AskLemmas.{finds_picked}

@@ -18,7 +18,7 @@ use Rattle.mds_tables.specs.Tables.{daydetail_tree, detail_tree, head_table, hea
 use Rattle.mds_tables.specs.Parts.{detail_part}
 use Rattle.mds_tables.specs.Writing.{IsMore, Keeps, KeepsOthers}
 use Rattle.mds_tables.proofs.RowLemmas.{detail_bare, more, of, says_details}
-use Rattle.mds_selects.proofs.Named.{Names, of_event, of_head_row, of_holiday, of_job, of_period, of_version}
+use Rattle.mds_tables.proofs.Named.{Names, of_event, of_head_row, of_holiday, of_job, of_period, of_version}
 use Rattle.mds_pack_rows.specs.DailyLayout.{daily_layout, versions_packed, world_3}
 use Rattle.mds_pack_rows.specs.DailyTables.{daydetail_table, schema_3, tables_3}
 use Rattle.mds_pack_rows.specs.PackFacts.{pack_facts}

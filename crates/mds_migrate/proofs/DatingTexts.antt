@@ -8,8 +8,8 @@ use Rattle.sqlite.proofs.Callers.{IsPlain, command_of}
 use Rattle.sqlite_tied.specs.Compute.{everything}
 use Rattle.sqlite_value.specs.declared.keys.Key.{Key}
 use Rattle.mds_tables.specs.Tables.{More, detail_tree, schema_with}
-use Rattle.mds_selects.specs.Shown.{falling}
-use Rattle.mds_selects.proofs.SelectTexts.{columns_at, equals, from_one}
+use Rattle.mds_tables.specs.Shown.{falling}
+use Rattle.mds_tables.proofs.SelectTexts.{columns_at, equals, from_one}
 use Rattle.mds_pack_rows.specs.PackTables.{packs_then}
 use Rattle.mds_migrate.specs.Dating.{shown_columns}
 

@@ -27,8 +27,8 @@ use Rattle.mds_tables.specs.Tables.{head_columns, head_tree, schema_with}
 use Rattle.mds_tables.specs.Frames.{IsAt}
 use Rattle.mds_tables.specs.Writing.{Puts}
 use Rattle.mds_tables.proofs.PutLemmas.{none_there, puts_then}
-use Rattle.mds_selects.proofs.Listed.{day_on, on_day}
-use Rattle.mds_selects.proofs.MemberLemmas.{place_of}
+use Rattle.mds_tables.proofs.Listed.{day_on, on_day}
+use Rattle.mds_tables.proofs.MemberLemmas.{place_of}
 use Rattle.mds_pack_rows.specs.DayRows.{shown_facts}
 use Rattle.mds_pack_rows.specs.FormLayout.{day_in, forms_behind}
 use Rattle.mds_pack_rows.specs.FormTables.{schema_4}

@@ -22,8 +22,8 @@ use Rattle.mds_tables.specs.Cells.{form_cells}
 use Rattle.mds_tables.specs.RowFacts.{detail_fact, event_fact, head_fact, heads_in, holiday_fact, job_fact, natural, period_fact, text_at}
 use Rattle.mds_tables.specs.Tables.{detail_table, form_tree, head_tree, schema_tree, version_table}
 use Rattle.mds_tables.specs.Writing.{Keeps, KeepsOthers}
-use Rattle.mds_selects.proofs.MemberLemmas.{moved}
-use Rattle.mds_selects.proofs.Named.{Names, of_detail, of_event, of_head, of_holiday, of_job, of_period, of_version}
+use Rattle.mds_tables.proofs.MemberLemmas.{moved}
+use Rattle.mds_tables.proofs.Named.{Names, of_detail, of_event, of_head, of_holiday, of_job, of_period, of_version}
 use Rattle.mds_pack_rows.specs.DailyLayout.{daily_layout, daily_own, versions_packed, world_3}
 use Rattle.mds_pack_rows.specs.DailyTables.{daydetail_table, tables_3}
 use Rattle.mds_pack_rows.specs.FormLayout.{day_in, form_fact, form_heads, forms_layout, unit_in, world_4}

@@ -15,10 +15,10 @@ use Rattle.sqlite_value.specs.declared.keys.Collation.TheVariants.{Binary}
 use Rattle.mds_world.specs.Lists.{Member}
 use Rattle.mds_tables.specs.RowFacts.{int_at, natural, natural_at, stream_in, text_at}
 use Rattle.mds_tables.specs.Tables.{More, day_key, head_tree, schema_with, tables_with, to_head, version_table, version_tree}
-use Rattle.mds_selects.proofs.KeyLemmas.{equal_cells}
-use Rattle.mds_selects.proofs.MemberLemmas.{all_has}
-use Rattle.mds_selects.proofs.TypedLemmas.{both}
-use Rattle.mds_selects.proofs.TypedRows.{head_row, version_row}
+use Rattle.mds_tables.proofs.KeyLemmas.{equal_cells}
+use Rattle.mds_tables.proofs.MemberLemmas.{all_has}
+use Rattle.mds_tables.proofs.TypedLemmas.{both}
+use Rattle.mds_tables.proofs.TypedRows.{head_row, version_row}
 
 -- a test that one of a list passes
 passed : {X : Type 0} (p : X → Bool) (xs : List X) → list_any p xs ≡ true → (x : X) × Member x xs × (p x ≡ true)

@@ -38,11 +38,11 @@ use Rattle.mds_world.proofs.Lists.{map_in}
 use Rattle.mds_tables.specs.Tables.{day_key, head_table, head_tree, schema_with}
 use Rattle.mds_tables.proofs.InsertLemmas.{cast_int, cast_null, simple}
 use Rattle.mds_tables.proofs.RowLemmas.{gains_one}
-use Rattle.mds_selects.proofs.KeyLemmas.{cells_equal, truth_of}
-use Rattle.mds_selects.proofs.MemberLemmas.{all_has, filter_in, moved}
-use Rattle.mds_selects.proofs.QueryLemmas.{head_typed}
-use Rattle.mds_selects.proofs.SelectLemmas.{Picks, picks, shows}
-use Rattle.mds_selects.proofs.TypedLemmas.{AreAlike, AreFor, alike, both}
+use Rattle.mds_tables.proofs.KeyLemmas.{cells_equal, truth_of}
+use Rattle.mds_tables.proofs.MemberLemmas.{all_has, filter_in, moved}
+use Rattle.mds_tables.proofs.QueryLemmas.{head_typed}
+use Rattle.mds_tables.proofs.SelectLemmas.{Picks, picks, shows}
+use Rattle.mds_tables.proofs.TypedLemmas.{AreAlike, AreFor, alike, both}
 use Rattle.mds_pack_rows.specs.PackTables.{Behind, packs_then}
 use Rattle.mds_pack_rows.specs.Putting.{IsThere}
 use Rattle.mds_pack_rows.proofs.PutLemmas.{others_in}

@@ -32,9 +32,9 @@ use Rattle.mds_tables.specs.Tables.{head_columns, head_tree, schema_with, versio
 use Rattle.mds_tables.specs.Frames.{IsAt}
 use Rattle.mds_tables.specs.Writing.{KeepsOthers}
 use Rattle.mds_tables.proofs.RowLemmas.{of}
-use Rattle.mds_selects.specs.Shown.{AreVersionsIn}
-use Rattle.mds_selects.proofs.Listed.{Tells, listed, tells, told, version_on}
-use Rattle.mds_selects.proofs.Named.{Names}
+use Rattle.mds_tables.specs.Shown.{AreVersionsIn}
+use Rattle.mds_tables.proofs.Listed.{Tells, listed, tells, told, version_on}
+use Rattle.mds_tables.proofs.Named.{Names}
 use Rattle.mds_pack_rows.specs.PackFacts.{pack_facts, pack_versions}
 use Rattle.mds_pack_rows.specs.PackTables.{Behind, pack_tree, packs_then, schema_2}
 use Rattle.mds_pack_rows.specs.PacksLayout.{nothing_behind, packs_over}

@@ -8,8 +8,8 @@ use Rattle.sqlite.proofs.Callers.{IsPlain, command_of}
 use Rattle.sqlite_tied.specs.Compute.{everything}
 use Rattle.sqlite_value.specs.declared.keys.Key.{Key}
 use Rattle.mds_tables.specs.Tables.{More, head_columns, head_tree, schema_with, version_columns, version_tree}
-use Rattle.mds_selects.specs.Shown.{rising}
-use Rattle.mds_selects.proofs.SelectTexts.{columns_at, equals, from_one}
+use Rattle.mds_tables.specs.Shown.{rising}
+use Rattle.mds_tables.proofs.SelectTexts.{columns_at, equals, from_one}
 use Rattle.mds_pack_rows.specs.PackTables.{packs_then}
 
 abbrev pub select_heads : List ℕ

@@ -34,8 +34,8 @@ use Rattle.mds_tables.specs.Stores.{SelectsAll, versions_said}
 use Rattle.mds_tables.specs.Tables.{More, detail_table, schema_table, schema_tree, schema_version, schema_with, version_table}
 use Rattle.mds_tables.proofs.InsertLemmas.{cast_int, same_value, simple, went}
 use Rattle.mds_tables.specs.Writing.{KeepsOthers}
-use Rattle.mds_selects.proofs.SelectLemmas.{picks}
-use Rattle.mds_selects.proofs.SelectTexts.{equals}
+use Rattle.mds_tables.proofs.SelectLemmas.{picks}
+use Rattle.mds_tables.proofs.SelectTexts.{equals}
 use Rattle.mds_pack_rows.specs.PackTables.{Behind, packs_then}
 use Rattle.mds_pack_rows.specs.Putting.{FindsThere, IsThere}
 use Rattle.mds_pack_rows.specs.Swaps.{Swaps}

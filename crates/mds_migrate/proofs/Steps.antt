@@ -21,7 +21,7 @@ use Rattle.mds_tables.specs.Layouts.{rows_layout, world_with}
 use Rattle.mds_tables.specs.RowFacts.{event_fact, head_fact, holiday_fact, job_fact, lengthless, natural_at, period_fact, stream_in, text_at, unit_named, version_fact}
 use Rattle.mds_tables.specs.Tables.{detail_table, head_table, head_tree, no_more, schema_1, schema_tree, tables_1, version_tree}
 use Rattle.mds_tables.specs.Writing.{Keeps, KeepsOthers}
-use Rattle.mds_selects.proofs.Named.{Names, of_detail, of_event, of_head_row, of_holiday, of_job, of_period, of_version}
+use Rattle.mds_tables.proofs.Named.{Names, of_detail, of_event, of_head_row, of_holiday, of_job, of_period, of_version}
 use Rattle.mds_pack_rows.specs.PackFacts.{pack_facts, pack_versions}
 use Rattle.mds_pack_rows.specs.Making.{MakesTable}
 use Rattle.mds_pack_rows.specs.PackTables.{pack_table, pack_tree, schema_2, tables_2}

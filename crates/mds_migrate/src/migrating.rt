@@ -17,8 +17,8 @@ use crate::outcome::{MigrateFault, Migrated};
 use crate::packing::Packing;
 use crate::step::take_step;
 use mds_pack_rows::{CURRENT, has_schema};
-use mds_selects::is_version;
 use mds_store::{are_current, are_daily, are_packed};
+use mds_tables::is_version;
 use sqlite::{Alter, Connection};
 use std::alloc::Global;
 

@@ -14,8 +14,7 @@ ghost use Rattle.mds_pack_rows.specs.PackTables.{Behind, packs_then, schema_2};
 ghost use Rattle.mds_pack_rows.specs.Putting.{GoesOn, IsThere};
 
 use mds_keeper::Unavailable;
-use mds_selects::int_at;
-use mds_tables::{or_unavailable, told};
+use mds_tables::{int_at, or_unavailable, told};
 use sqlite::types::ValueRef;
 use sqlite::{Alter, Row, Transaction};
 

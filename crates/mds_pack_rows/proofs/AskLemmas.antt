@@ -22,13 +22,13 @@ use Rattle.mds_world.specs.Lists.{Member}
 use Rattle.mds_tables.specs.Cells.{day_cells}
 use Rattle.mds_tables.specs.Stores.{Selects, SelectsAll}
 use Rattle.mds_tables.specs.Tables.{More, schema_with}
-use Rattle.mds_selects.proofs.KeyLemmas.{tests}
-use Rattle.mds_selects.proofs.MemberLemmas.{selects, selects_all}
-use Rattle.mds_selects.proofs.QueryLemmas.{AsksFor, fails_same, kept, shown_same}
-use Rattle.mds_selects.proofs.SelectLemmas.{Picks, picks}
-use Rattle.mds_selects.proofs.SelectTexts.{columns_at}
-use Rattle.mds_selects.proofs.TypedLemmas.{AreFor, AreTyped, alike, both}
-use Rattle.mds_selects.proofs.TypedRows.{HasKeyCells}
+use Rattle.mds_tables.proofs.KeyLemmas.{tests}
+use Rattle.mds_tables.proofs.MemberLemmas.{selects, selects_all}
+use Rattle.mds_tables.proofs.QueryLemmas.{AsksFor, fails_same, kept, shown_same}
+use Rattle.mds_tables.proofs.SelectLemmas.{Picks, picks}
+use Rattle.mds_tables.proofs.SelectTexts.{columns_at}
+use Rattle.mds_tables.proofs.TypedLemmas.{AreFor, AreTyped, alike, both}
+use Rattle.mds_tables.proofs.TypedRows.{HasKeyCells}
 use Rattle.mds_pack_rows.specs.PackCells.{key_cells}
 use Rattle.mds_pack_rows.specs.PackTables.{pack_table, pack_tree, packs_then}
 use Rattle.mds_pack_rows.specs.Putting.{FindsThere, GoesOn}

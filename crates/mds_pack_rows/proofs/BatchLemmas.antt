@@ -35,7 +35,7 @@ use Rattle.mds_tables.specs.Tabling.{terms_of}
 use Rattle.mds_tables.specs.Writing.{KeepsOthers}
 use Rattle.mds_tables.proofs.TermLemmas.{AreWide, rows_are}
 use Rattle.mds_tables.proofs.RowLemmas.{of}
-use Rattle.mds_selects.proofs.MemberLemmas.{all_has}
+use Rattle.mds_tables.proofs.MemberLemmas.{all_has}
 use Rattle.mds_pack_rows.specs.Batches.{SayDays, SaySome, SaysDay, columns_of, said_by}
 use Rattle.mds_pack_rows.specs.PackFacts.{body_facts, pack_facts, readings_in}
 use Rattle.mds_pack_rows.specs.PackTables.{pack_table, pack_tree, packs_then}

@@ -18,7 +18,7 @@ use Rattle.mds_world.proofs.Sets.{list_append, union_assoc, union_empty}
 use Rattle.mds_tables.specs.RowFacts.{text_at}
 use Rattle.mds_tables.specs.Stores.{Gains}
 use Rattle.mds_tables.proofs.RowLemmas.{IsMore, of}
-use Rattle.mds_selects.proofs.MemberLemmas.{moved}
+use Rattle.mds_tables.proofs.MemberLemmas.{moved}
 use Rattle.mds_pack_rows.specs.PackFacts.{pack_facts, pack_versions, readings_in}
 use Rattle.mds_pack_rows.specs.PackTables.{pack_tree}
 use Rattle.mds_pack_rows.specs.Putting.{IsAmong, NamesMore}

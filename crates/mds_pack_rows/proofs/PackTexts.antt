@@ -11,7 +11,7 @@ use Rattle.sqlite_tied.specs.Compute.{everything}
 use Rattle.mds_tables.specs.Parts.{together}
 use Rattle.mds_tables.specs.Tables.{More, schema_with}
 use Rattle.mds_tables.specs.Tabling.{terms_of}
-use Rattle.mds_selects.proofs.SelectTexts.{columns_at, equals, from_one}
+use Rattle.mds_tables.proofs.SelectTexts.{columns_at, equals, from_one}
 use Rattle.mds_pack_rows.specs.PackTables.{body_columns, pack_tree, packs_then, update_columns}
 
 -- the place of mds_pack among the tables

@@ -42,9 +42,9 @@ use Rattle.mds_tables.specs.Tables.{More, schema_with}
 use Rattle.mds_tables.proofs.InsertLemmas.{Adds as OneMore, adds, cast_int, simple}
 use Rattle.mds_tables.specs.Writing.{KeepsOthers}
 use Rattle.mds_tables.proofs.RowLemmas.{IsMore, gains_one, of}
-use Rattle.mds_selects.proofs.SelectLemmas.{picks}
-use Rattle.mds_selects.proofs.SelectTexts.{equals}
-use Rattle.mds_selects.proofs.TypedRows.{begins_at}
+use Rattle.mds_tables.proofs.SelectLemmas.{picks}
+use Rattle.mds_tables.proofs.SelectTexts.{equals}
+use Rattle.mds_tables.proofs.TypedRows.{begins_at}
 use Rattle.mds_pack_rows.specs.Laying.{laid}
 use Rattle.mds_pack_rows.specs.PackCells.{key_cells, pack_cells}
 use Rattle.mds_pack_rows.specs.PackFacts.{body_facts, facts_from, minutes_of, pack_facts, readings_facts, readings_in}

@@ -16,7 +16,7 @@ use Rattle.mds_world.proofs.Members.{in_list, list_in, same_by}
 use Rattle.mds_world.proofs.Sets.{list_append, union_assoc, union_comm}
 use Rattle.mds_tables.specs.Stores.{Gains}
 use Rattle.mds_tables.proofs.RowLemmas.{IsMore, of}
-use Rattle.mds_selects.proofs.MemberLemmas.{moved}
+use Rattle.mds_tables.proofs.MemberLemmas.{moved}
 use Rattle.mds_pack_rows.specs.PackFacts.{pack_facts}
 use Rattle.mds_pack_rows.specs.Swaps.{Swaps}
 

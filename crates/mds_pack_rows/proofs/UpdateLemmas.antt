@@ -35,9 +35,9 @@ use Rattle.sqlite_value.specs.declared.keys.Collation.TheVariants.{Binary}
 use Rattle.mds_world.specs.Lists.{Member}
 use Rattle.mds_tables.proofs.InsertLemmas.{same_value, simple, went}
 use Rattle.mds_tables.proofs.RowLemmas.{gains_one}
-use Rattle.mds_selects.proofs.KeyLemmas.{truth_of}
-use Rattle.mds_selects.proofs.SelectLemmas.{Picks, passes, shows}
-use Rattle.mds_selects.proofs.SelectTexts.{equals}
+use Rattle.mds_tables.proofs.KeyLemmas.{truth_of}
+use Rattle.mds_tables.proofs.SelectLemmas.{Picks, passes, shows}
+use Rattle.mds_tables.proofs.SelectTexts.{equals}
 use Rattle.mds_pack_rows.specs.Swaps.{Swaps}
 
 -- ---- the test of a rowid

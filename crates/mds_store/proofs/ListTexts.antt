@@ -9,7 +9,7 @@ use Rattle.sqlite.proofs.Callers.{IsPlain, command_of}
 use Rattle.sqlite_tied.specs.Compute.{everything}
 use Rattle.sqlite_value.specs.declared.keys.Key.{Key}
 use Rattle.mds_tables.specs.Tables.{More, schema_with}
-use Rattle.mds_selects.proofs.SelectTexts.{columns_at, equals, from_one}
+use Rattle.mds_tables.proofs.SelectTexts.{columns_at, equals, from_one}
 
 abbrev pub select_holidays : List ℕ
 select_holidays = codes "SELECT day FROM mds_holiday"

@@ -25,10 +25,10 @@ use Rattle.mds_tables.specs.Layouts.{Layout, world_with}
 use Rattle.mds_tables.specs.RowFacts.{holiday_fact, natural, natural_at, text_at}
 use Rattle.mds_tables.specs.Stores.{Begins, Selects}
 use Rattle.mds_tables.specs.Tables.{job_table, schema_with}
-use Rattle.mds_selects.proofs.Listed.{tells, told}
-use Rattle.mds_selects.proofs.MemberLemmas.{all_has}
-use Rattle.mds_selects.proofs.Named.{of_holiday, of_job}
-use Rattle.mds_selects.proofs.TypedRows.{begins_at, begins_by, text_typed}
+use Rattle.mds_tables.proofs.Listed.{tells, told}
+use Rattle.mds_tables.proofs.MemberLemmas.{all_has}
+use Rattle.mds_tables.proofs.Named.{of_holiday, of_job}
+use Rattle.mds_tables.proofs.TypedRows.{begins_at, begins_by, text_typed}
 use Rattle.mds_store.specs.Said.{AreHolidaysIn, IsOnlyJob, SaysHoliday, SaysJob}
 
 pub day_exact : IsAntisymmetric nat_cmp

@@ -26,9 +26,9 @@ use Rattle.mds_tables.specs.Layouts.{Layout, world_with}
 use Rattle.mds_tables.specs.RowFacts.{int_at, natural, natural_at, period_fact, stream_in, text_at}
 use Rattle.mds_tables.specs.Stores.{Begins, Selects}
 use Rattle.mds_tables.specs.Tables.{schema_with}
-use Rattle.mds_selects.proofs.Listed.{on_stream, tells, told}
-use Rattle.mds_selects.proofs.Named.{of_period}
-use Rattle.mds_selects.proofs.TypedRows.{begins_at, begins_by, period_row, small}
+use Rattle.mds_tables.proofs.Listed.{on_stream, tells, told}
+use Rattle.mds_tables.proofs.Named.{of_period}
+use Rattle.mds_tables.proofs.TypedRows.{begins_at, begins_by, period_row, small}
 use Rattle.mds_store.specs.Periods.{ArePeriodsIn, IsOnlyContent, SaysPeriod}
 
 -- ---- their order

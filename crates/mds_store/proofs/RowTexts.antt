@@ -13,7 +13,7 @@ use Rattle.sqlite_tied.specs.Compute.{everything}
 use Rattle.sqlite_trees.specs.Tree.{Trees}
 use Rattle.mds_tables.specs.Tables.{More, detail_tree, schema_with, version_tree}
 use Rattle.mds_tables.proofs.CauseLemmas.{IsWhole}
-use Rattle.mds_selects.proofs.SelectTexts.{columns_at, from_one}
+use Rattle.mds_tables.proofs.SelectTexts.{columns_at, from_one}
 use Rattle.mds_store.specs.Shown.{detail_moment, version_slot}
 
 none_of : {X : Type 0} (xs : List X) → ¬ Any (λ x. ⊥) xs

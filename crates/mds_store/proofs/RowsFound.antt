@@ -11,11 +11,11 @@ use Rattle.mds_tables.specs.Cells.{period_key_cells, stream_cells}
 use Rattle.mds_tables.specs.Layouts.{Layout}
 use Rattle.mds_tables.specs.Stores.{FindsOf, Selects}
 use Rattle.mds_tables.specs.Tables.{period_table}
-use Rattle.mds_selects.proofs.KeyLemmas.{tests}
-use Rattle.mds_selects.proofs.MemberLemmas.{selects}
-use Rattle.mds_selects.proofs.QueryLemmas.{finds, period_typed}
-use Rattle.mds_selects.proofs.SelectTexts.{columns_at}
-use Rattle.mds_selects.proofs.TypedLemmas.{AreFor}
+use Rattle.mds_tables.proofs.KeyLemmas.{tests}
+use Rattle.mds_tables.proofs.MemberLemmas.{selects}
+use Rattle.mds_tables.proofs.QueryLemmas.{finds, period_typed}
+use Rattle.mds_tables.proofs.SelectTexts.{columns_at}
+use Rattle.mds_tables.proofs.TypedLemmas.{AreFor}
 use Rattle.mds_store.proofs.ListTexts.{rising, select_periods, select_periods_is, select_periods_plain}
 
 periods_for : (s : Stream) → AreFor period_table.columns (stream_cells s)

@@ -12,7 +12,7 @@ use Rattle.mds_world.specs.Facts.Fact.{PeriodIs}
 use Rattle.mds_terms.specs.Printable.{is_printable}
 use Rattle.mds_tables.specs.Cells.{period_cells}
 use Rattle.mds_tables.specs.RowFacts.{natural_at, period_fact, stream_in, text_at}
-use Rattle.mds_selects.specs.Written.{IsMoment, IsStream}
+use Rattle.mds_tables.specs.Written.{IsMoment, IsStream}
 
 -- a column is the body of an accumulation, as the store writes it, and some text says its content
 pub record IsBodyAt (row : Row) (at : ℕ) (period : Period) : Type 0 where

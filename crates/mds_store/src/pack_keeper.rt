@@ -16,9 +16,8 @@ use mds_commit::{
 };
 use mds_jobs::{Job, JobId};
 use mds_keeper::{Additions, DayBook, DetailDays, Keeper, Unavailable};
-use mds_selects::{events_of, has_event};
 use mds_statements::{Period, PeriodContent, PeriodKey};
-use mds_tables::{job_rows, period_rows};
+use mds_tables::{events_of, has_event, job_rows, period_rows};
 use mds_terms::{Day, Details, Event, Stream};
 use sqlite::{Alter, Connection};
 use std::alloc::Global;

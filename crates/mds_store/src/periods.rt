@@ -18,9 +18,8 @@ ghost use Rattle.mds_store.specs.Periods.{ArePeriodsIn, IsBodyAt, IsOnlyContent,
 
 use crate::rows::{content_rows, only_row, period_rows};
 use mds_keeper::Unavailable;
-use mds_selects::{moment_at, str_at, stream_in, text_at};
 use mds_statements::{Period, PeriodContent, PeriodKey};
-use mds_tables::{or_unavailable, ready, told};
+use mds_tables::{moment_at, or_unavailable, ready, str_at, stream_in, text_at, told};
 use mds_terms::{PrintableString, Stream};
 use sqlite::{Alter, Connection, Row};
 use std::alloc::Global;

@@ -10,14 +10,13 @@ ghost use Rattle.mds_keeper.specs.Queries.{AreHolidays, IsJobOf};
 ghost use Rattle.mds_tables.specs.Layouts.{Layout, world_with};
 ghost use Rattle.mds_tables.specs.Queries.{Answers};
 ghost use Rattle.mds_tables.specs.Stores.{HoldsOf};
-ghost use Rattle.mds_selects.specs.Added.{AreAdded, IsAdded};
+ghost use Rattle.mds_tables.specs.Added.{AreAdded, IsAdded};
 ghost use Rattle.mds_store.specs.Said.{AreHolidaysIn, IsOnlyJob, SaysHoliday, SaysJob};
 
 use crate::rows::{holiday_rows, job_rows, only_row};
 use mds_jobs::{Job, JobId};
 use mds_keeper::Unavailable;
-use mds_selects::{day_at, in_order, int_at, put, text_at};
-use mds_tables::{or_unavailable, ready, told};
+use mds_tables::{day_at, in_order, int_at, or_unavailable, put, ready, text_at, told};
 use mds_terms::Day;
 use sqlite::{Alter, Connection, Row};
 use std::alloc::Global;

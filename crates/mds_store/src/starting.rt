@@ -25,8 +25,7 @@ use crate::old_rows::{detail_rows, slot_rows};
 use crate::pack_keeper::PackKeeper;
 use mds_commit::make_tables;
 use mds_pack_rows::{CURRENT, CURRENT_VERSION, has_schema};
-use mds_selects::is_version;
-use mds_tables::ready;
+use mds_tables::{is_version, ready};
 use sqlite::{Alter, Connection, Error, Row};
 use std::alloc::Global;
 
@@ -114,8 +113,8 @@ pub fn adopt<S: Alter>(
     }
 }
 
-/// Whether mds_schema says the number of the current schema and nothing else, and neither a version nor details of a stream have a row
-/// of their own. An error is the library's: the store failed with a cause, or the limit of steps was reached.
+/// Whether mds_schema says the number of the current schema and nothing else. Nor may a version or details of a stream have a row of
+/// their own. An error is the library's: the store failed with a cause, or the limit of steps was reached.
 pub fn are_current<S: Alter>(conn: &mut Connection<S>) -> Result<bool, Error>
     requires { conn.old.in_transaction ≡ false }
     ensures answers { Answers (HoldsTablesOf current_layout) (state S.Store conn.old) (state S.Store conn.new) result

@@ -1,3 +1,4 @@
+pub mod Added
 pub mod Causes
 pub mod Cells
 pub mod Frames
@@ -13,8 +14,10 @@ pub mod Queries
 pub mod Refusals
 pub mod RowFacts
 pub mod Shapes
+pub mod Shown
 pub mod Stores
 pub mod Tables
 pub mod Tabling
 pub mod Texts
 pub mod Writing
+pub mod Written

@@ -3,7 +3,7 @@ use Rattle.std.proofs.lemmas.Result.{IfOk-weaker}
 use Rattle.sqlite.specs.Held.{state}
 use Rattle.sqlite_value.specs.Order.{Row}
 use Rattle.mds_tables.specs.RowFacts.{text_at, unit_named}
-use Rattle.mds_selects.proofs.Asked.{and_then, answers, refused, steady, tables_held}
+use Rattle.mds_tables.proofs.Asked.{and_then, answers, refused, steady, tables_held}
 use Rattle.mds_pack_rows.specs.Current.{current_layout}
 use Rattle.mds_commit.specs.FormRows.{IsBookOf}
 use Rattle.mds_commit.proofs.DayLemmas.{is_day, no_day, only_unit}

@@ -1,5 +1,5 @@
 use Rattle.std.proofs.lemmas.Result.{on_ok_weaker}
-use Rattle.mds_selects.proofs.Adding.{adds_one}
+use Rattle.mds_tables.proofs.Adding.{adds_one}
 use Rattle.mds_commit.specs.StreamRows.{SaysStream}
 use Rattle.mds_commit.proofs.StreamLemmas.{one_stream, stream_exact}
 use Rattle.mds_commit.proofs.known_streams.add_stream.Goals as goal

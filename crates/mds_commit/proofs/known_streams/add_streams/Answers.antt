@@ -1,4 +1,4 @@
-use Rattle.mds_selects.proofs.Adding.{adds_all, adds_more, adds_none}
+use Rattle.mds_tables.proofs.Adding.{adds_all, adds_more, adds_none}
 use Rattle.mds_commit.specs.StreamRows.{SaysStream}
 use Rattle.mds_commit.proofs.known_streams.add_streams.Goals as goal
 

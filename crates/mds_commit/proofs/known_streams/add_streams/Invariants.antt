@@ -1,5 +1,5 @@
 use Rattle.std.proofs.Common.{take}
-use Rattle.mds_selects.specs.Added.{AreAdded}
+use Rattle.mds_tables.specs.Added.{AreAdded}
 use Rattle.mds_commit.specs.StreamRows.{SaysStream}
 use Rattle.mds_commit.proofs.known_streams.add_streams.Given as goal
 

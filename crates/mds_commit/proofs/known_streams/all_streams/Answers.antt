@@ -1,6 +1,6 @@
 use Rattle.std.proofs.Common.{◌≡◌, subst, sym}
 use Rattle.std.proofs.lemmas.Result.{IfOk-weaker}
-use Rattle.mds_selects.proofs.Adding.{just_two}
+use Rattle.mds_tables.proofs.Adding.{just_two}
 use Rattle.mds_commit.specs.StreamRows.{AreStreamsIn, SaysStream}
 use Rattle.mds_commit.proofs.known_streams.all_streams.Goals as goal
 

@@ -1,7 +1,7 @@
 use Rattle.std.specs.Prelude.{ℕ, Option}
 use Rattle.sqlite.specs.Held.{state}
-use Rattle.mds_selects.specs.Shown.{SaysDay}
-use Rattle.mds_selects.proofs.Asked.{and_then, answers, refused, steady, tables_held, with_both}
+use Rattle.mds_tables.specs.Shown.{SaysDay}
+use Rattle.mds_tables.proofs.Asked.{and_then, answers, refused, steady, tables_held, with_both}
 use Rattle.mds_pack_rows.specs.Current.{current_layout}
 use Rattle.mds_commit.proofs.StreamLemmas.{finds_last}
 use Rattle.mds_commit.proofs.known_streams.last_day.Goals as goal

@@ -3,7 +3,7 @@ use Rattle.std.proofs.Common.{◌≡◌}
 use Rattle.std.specs.declared.cmp.Ordering.TheVariants.{Less}
 use Rattle.sqlite.specs.Held.{state}
 use Rattle.mds_keeper.specs.Queries.{stream_cmp}
-use Rattle.mds_selects.proofs.Asked.{and_then, answers, refused, steady, tables_held, with_both}
+use Rattle.mds_tables.proofs.Asked.{and_then, answers, refused, steady, tables_held, with_both}
 use Rattle.mds_pack_rows.specs.Current.{current_layout}
 use Rattle.mds_commit.specs.StreamRows.{AreStreamsIn}
 use Rattle.mds_commit.proofs.StreamLemmas.{finds_streams}

@@ -2,8 +2,8 @@ use Rattle.std.proofs.Common.{arith}
 use Rattle.std.proofs.lemmas.Result.{IfOk-from_err, err_from_is_err_and}
 use Rattle.std.specs.Prelude.{All, Err, IsErr, None, Ok, OnErr, Result, Some}
 use Rattle.sqlite.specs.Held.{state}
-use Rattle.mds_selects.specs.Shown.{SaysDay}
-use Rattle.mds_selects.proofs.Asked.{and_then, answers, refused, steady, tables_held, unready, with_both}
+use Rattle.mds_tables.specs.Shown.{SaysDay}
+use Rattle.mds_tables.proofs.Asked.{and_then, answers, refused, steady, tables_held, unready, with_both}
 use Rattle.mds_pack_rows.specs.Current.{current_layout}
 use Rattle.mds_commit.specs.Shown.{IsDetailRow, TellsFirst}
 use Rattle.mds_commit.proofs.DayFacts.{finds_current, finds_none, finds_own}

@@ -3,7 +3,7 @@ use Rattle.std.specs.List.{AllPairs}
 use Rattle.std.specs.Ordering.{nat_cmp}
 use Rattle.std.specs.declared.cmp.Ordering.TheVariants.{Less}
 use Rattle.sqlite.specs.Held.{state}
-use Rattle.mds_selects.proofs.Asked.{and_then, answers, steady, tables_held, with_both}
+use Rattle.mds_tables.proofs.Asked.{and_then, answers, steady, tables_held, with_both}
 use Rattle.mds_pack_rows.specs.Current.{current_layout}
 use Rattle.mds_commit.specs.Shown.{AreLeft}
 use Rattle.mds_commit.proofs.DayFacts.{finds_without, without_none}

@@ -1,7 +1,7 @@
 use Rattle.std.proofs.Common.{arith}
 use Rattle.std.specs.Prelude.{All}
 use Rattle.sqlite.specs.Held.{state}
-use Rattle.mds_selects.proofs.Asked.{and_then, answers, steady, tables_held, with_both}
+use Rattle.mds_tables.proofs.Asked.{and_then, answers, steady, tables_held, with_both}
 use Rattle.mds_pack_rows.specs.Current.{current_layout}
 use Rattle.mds_commit.specs.Shown.{AreByDay, IsDetailRow, TellsDays}
 use Rattle.mds_commit.proofs.DayFacts.{finds_between}

@@ -1,6 +1,6 @@
 use Rattle.std.proofs.Common.{map, arith}
 use Rattle.sqlite.specs.Held.{state}
-use Rattle.mds_selects.proofs.Asked.{and_then, answers, refused, steady, tables_held, with_both}
+use Rattle.mds_tables.proofs.Asked.{and_then, answers, refused, steady, tables_held, with_both}
 use Rattle.mds_pack_rows.specs.Current.{current_layout}
 use Rattle.mds_commit.specs.Cuts.{AreCut, DaysAscend, day_unit}
 use Rattle.mds_commit.proofs.CutLemmas.{are_days}

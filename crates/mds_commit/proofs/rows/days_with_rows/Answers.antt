@@ -1,4 +1,4 @@
-use Rattle.mds_selects.proofs.QueryLemmas.{queried}
+use Rattle.mds_tables.proofs.QueryLemmas.{queried}
 use Rattle.mds_pack_rows.specs.Current.{current_layout}
 use Rattle.mds_commit.proofs.DaysWith.{finds_days}
 use Rattle.mds_commit.proofs.DetailTexts.{select_days_with, select_days_with_plain}

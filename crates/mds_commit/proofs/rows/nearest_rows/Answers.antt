@@ -1,4 +1,4 @@
-use Rattle.mds_selects.proofs.QueryLemmas.{queried}
+use Rattle.mds_tables.proofs.QueryLemmas.{queried}
 use Rattle.mds_pack_rows.specs.Current.{current_layout}
 use Rattle.mds_commit.proofs.DetailTexts.{select_nearest, select_nearest_plain}
 use Rattle.mds_commit.proofs.NearestRows.{finds_nearest}

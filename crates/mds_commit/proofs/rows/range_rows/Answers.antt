@@ -1,4 +1,4 @@
-use Rattle.mds_selects.proofs.QueryLemmas.{queried}
+use Rattle.mds_tables.proofs.QueryLemmas.{queried}
 use Rattle.mds_pack_rows.specs.Current.{current_layout}
 use Rattle.mds_commit.proofs.DetailTexts.{select_range, select_range_plain}
 use Rattle.mds_commit.proofs.RangeRows.{finds_range}

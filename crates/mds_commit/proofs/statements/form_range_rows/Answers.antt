@@ -1,6 +1,6 @@
 use Rattle.std.proofs.Common.{refl}
 use Rattle.mds_tables.specs.Tables.{form_tree}
-use Rattle.mds_selects.proofs.QueryLemmas.{queried}
+use Rattle.mds_tables.proofs.QueryLemmas.{queried}
 use Rattle.mds_pack_rows.specs.Current.{current_layout}
 use Rattle.mds_commit.specs.Cuts.{range_columns}
 use Rattle.mds_commit.proofs.FormNamed.{form_row}

@@ -1,7 +1,7 @@
 use Rattle.std.proofs.Common.{refl}
 use Rattle.mds_tables.specs.Cells as row
 use Rattle.mds_tables.specs.Tables.{form_tree}
-use Rattle.mds_selects.proofs.QueryLemmas.{finds_rows, queried}
+use Rattle.mds_tables.proofs.QueryLemmas.{finds_rows, queried}
 use Rattle.mds_pack_rows.specs.Current.{current_layout}
 use Rattle.mds_pack_rows.specs.FormTables.{form_table}
 use Rattle.mds_commit.specs.FormRows.{form_columns}

@@ -1,6 +1,6 @@
 use Rattle.std.proofs.Common.{[], refl}
 use Rattle.mds_tables.specs.Tables.{form_tree, stream_columns}
-use Rattle.mds_selects.proofs.QueryLemmas.{finds_rows, queried}
+use Rattle.mds_tables.proofs.QueryLemmas.{finds_rows, queried}
 use Rattle.mds_pack_rows.specs.Current.{current_layout}
 use Rattle.mds_pack_rows.specs.FormTables.{form_table}
 use Rattle.mds_commit.proofs.FormNamed.{form_typed}

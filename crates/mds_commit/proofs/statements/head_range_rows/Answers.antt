@@ -1,7 +1,7 @@
 use Rattle.std.proofs.Common.{refl}
 use Rattle.mds_tables.specs.Tables.{head_tree}
-use Rattle.mds_selects.proofs.QueryLemmas.{queried}
-use Rattle.mds_selects.proofs.TypedRows.{head_row}
+use Rattle.mds_tables.proofs.QueryLemmas.{queried}
+use Rattle.mds_tables.proofs.TypedRows.{head_row}
 use Rattle.mds_pack_rows.specs.Current.{current_layout, current_more}
 use Rattle.mds_commit.specs.Cuts.{day_columns}
 use Rattle.mds_commit.proofs.FormTexts.{by_day, select_head_range, select_head_range_is, select_head_range_plain}

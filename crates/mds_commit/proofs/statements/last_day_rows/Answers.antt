@@ -1,8 +1,8 @@
 use Rattle.std.proofs.Common.{drop, refl}
 use Rattle.mds_tables.specs.Tables.{form_tree}
-use Rattle.mds_selects.specs.Shown.{falling}
-use Rattle.mds_selects.proofs.FirstLemmas.{finds_first}
-use Rattle.mds_selects.proofs.QueryLemmas.{queried, stream_for}
+use Rattle.mds_tables.specs.Shown.{falling}
+use Rattle.mds_tables.proofs.FirstLemmas.{finds_first}
+use Rattle.mds_tables.proofs.QueryLemmas.{queried, stream_for}
 use Rattle.mds_pack_rows.specs.Current.{current_layout}
 use Rattle.mds_pack_rows.specs.FormTables.{form_table}
 use Rattle.mds_commit.specs.FormRows.{form_day}

@@ -1,5 +1,5 @@
 use Rattle.std.proofs.Common.{refl}
-use Rattle.mds_selects.proofs.QueryLemmas.{queried}
+use Rattle.mds_tables.proofs.QueryLemmas.{queried}
 use Rattle.mds_pack_rows.specs.Current.{current_layout, current_packs}
 use Rattle.mds_pack_rows.specs.PackTables.{pack_tree}
 use Rattle.mds_pack_rows.proofs.AskLemmas.{pack_row}

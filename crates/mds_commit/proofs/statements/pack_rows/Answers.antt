@@ -1,6 +1,6 @@
 use Rattle.std.proofs.Common.{refl}
 use Rattle.mds_tables.specs.Cells as row
-use Rattle.mds_selects.proofs.QueryLemmas.{finds_rows, queried}
+use Rattle.mds_tables.proofs.QueryLemmas.{finds_rows, queried}
 use Rattle.mds_pack_rows.specs.Current.{current_layout, current_packs}
 use Rattle.mds_pack_rows.specs.PackTables.{pack_table, pack_tree, update_columns}
 use Rattle.mds_pack_rows.proofs.AskLemmas.{day_for, pack_typed}

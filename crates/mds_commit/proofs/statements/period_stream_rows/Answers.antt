@@ -1,6 +1,6 @@
 use Rattle.std.proofs.Common.{[], refl}
 use Rattle.mds_tables.specs.Tables.{period_table, period_tree, stream_columns}
-use Rattle.mds_selects.proofs.QueryLemmas.{finds_rows, period_typed, queried}
+use Rattle.mds_tables.proofs.QueryLemmas.{finds_rows, period_typed, queried}
 use Rattle.mds_pack_rows.specs.Current.{current_layout, current_more}
 use Rattle.mds_commit.proofs.FormTexts.{select_period_streams, select_period_streams_is, select_period_streams_plain}
 use Rattle.mds_commit.proofs.statements.period_stream_rows.Goals as goal

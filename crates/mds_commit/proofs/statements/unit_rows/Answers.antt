@@ -1,7 +1,7 @@
 use Rattle.std.proofs.Common.{refl}
 use Rattle.mds_tables.specs.Cells as row
 use Rattle.mds_tables.specs.Tables.{head_table, head_tree}
-use Rattle.mds_selects.proofs.QueryLemmas.{finds_rows, head_for, head_typed, queried}
+use Rattle.mds_tables.proofs.QueryLemmas.{finds_rows, head_for, head_typed, queried}
 use Rattle.mds_pack_rows.specs.Current.{current_layout, current_more}
 use Rattle.mds_commit.specs.FormRows.{unit_columns}
 use Rattle.mds_commit.proofs.FormTexts.{select_unit, select_unit_is, select_unit_plain}

@@ -2,7 +2,7 @@ use Rattle.std.proofs.Common.{◌≡◌, IsTrue, false, rules, subst}
 use Rattle.std.specs.List.{AllByRecursion}
 use Rattle.sqlite_sql.specs.Ops.{is_null}
 use Rattle.sqlite_value.specs.Order.{Row, column}
-use Rattle.mds_selects.proofs.MemberLemmas.{all_has}
+use Rattle.mds_tables.proofs.MemberLemmas.{all_has}
 use Rattle.mds_commit.proofs.UnitAsking.{asked_no, asked_so}
 use Rattle.mds_commit.proofs.units.have_rowids.Goals as goal
 

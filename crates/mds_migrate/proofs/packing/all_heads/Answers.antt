@@ -2,7 +2,7 @@ use Rattle.std.proofs.Common.{[], refl}
 use Rattle.sqlite.specs.Held.{state}
 use Rattle.mds_tables.specs.Stores.{Selects}
 use Rattle.mds_tables.specs.Tables.{head_columns, head_table, head_tree, schema_with}
-use Rattle.mds_selects.proofs.QueryLemmas.{head_typed}
+use Rattle.mds_tables.proofs.QueryLemmas.{head_typed}
 use Rattle.mds_pack_rows.specs.PackTables.{packs_then}
 use Rattle.mds_pack_rows.proofs.AskLemmas.{asked_kept, finds_there, shown_on}
 use Rattle.mds_pack_rows.proofs.FrameLemmas.{frames_finds}

@@ -2,7 +2,7 @@ use Rattle.std.proofs.Common.{map, subst, arith}
 use Rattle.sqlite.specs.Held.{state}
 use Rattle.mds_keeper.specs.Content.{version_at, version_fact}
 use Rattle.mds_tables.proofs.FrameLemmas.{frames_refused, frames_stop, frames_then}
-use Rattle.mds_selects.specs.Shown.{AreVersionsIn}
+use Rattle.mds_tables.specs.Shown.{AreVersionsIn}
 use Rattle.mds_pack_rows.specs.PacksLayout.{nothing_behind}
 use Rattle.mds_pack_rows.proofs.FrameLemmas.{frames_packs}
 use Rattle.mds_migrate.proofs.PackingLemmas.{packs_day}

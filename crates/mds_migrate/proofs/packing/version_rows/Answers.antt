@@ -3,7 +3,7 @@ use Rattle.sqlite.specs.Held.{state}
 use Rattle.mds_tables.specs.Cells as row
 use Rattle.mds_tables.specs.Stores.{Selects}
 use Rattle.mds_tables.specs.Tables.{no_more, schema_with, version_columns, version_table, version_tree}
-use Rattle.mds_selects.proofs.QueryLemmas.{version_for, version_typed}
+use Rattle.mds_tables.proofs.QueryLemmas.{version_for, version_typed}
 use Rattle.mds_pack_rows.specs.PackTables.{packs_then}
 use Rattle.mds_pack_rows.proofs.AskLemmas.{asked_kept, finds_there, shown_on}
 use Rattle.mds_pack_rows.proofs.FrameLemmas.{frames_finds}

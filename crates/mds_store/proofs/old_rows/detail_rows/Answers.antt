@@ -1,8 +1,8 @@
 use Rattle.std.proofs.Common.{[], ◌∷◌, refl}
 use Rattle.sqlite.specs.Held.{state}
 use Rattle.mds_tables.specs.Tables.{detail_tree}
-use Rattle.mds_selects.proofs.QueryCauses.{why}
-use Rattle.mds_selects.proofs.QueryLemmas.{finds_every, queried}
+use Rattle.mds_tables.proofs.QueryCauses.{why}
+use Rattle.mds_tables.proofs.QueryLemmas.{finds_every, queried}
 use Rattle.mds_store.specs.Shown.{detail_moment}
 use Rattle.mds_store.proofs.RowTexts.{select_moments, select_moments_cut, select_moments_is, select_moments_plain, select_moments_whole}
 use Rattle.mds_store.proofs.old_rows.detail_rows.Goals as goal

@@ -1,8 +1,8 @@
 use Rattle.std.proofs.Common.{[], ◌∷◌, refl}
 use Rattle.sqlite.specs.Held.{state}
 use Rattle.mds_tables.specs.Tables.{version_tree}
-use Rattle.mds_selects.proofs.QueryCauses.{why}
-use Rattle.mds_selects.proofs.QueryLemmas.{finds_every, queried}
+use Rattle.mds_tables.proofs.QueryCauses.{why}
+use Rattle.mds_tables.proofs.QueryLemmas.{finds_every, queried}
 use Rattle.mds_store.specs.Shown.{version_slot}
 use Rattle.mds_store.proofs.RowTexts.{select_slots, select_slots_cut, select_slots_is, select_slots_plain, select_slots_whole}
 use Rattle.mds_store.proofs.old_rows.slot_rows.Goals as goal

@@ -1,6 +1,6 @@
 use Rattle.std.proofs.lemmas.Result.{IfOk-weaker}
 use Rattle.sqlite.specs.Held.{state}
-use Rattle.mds_selects.proofs.Asked.{and_then, answers, refused, steady, tables_held}
+use Rattle.mds_tables.proofs.Asked.{and_then, answers, refused, steady, tables_held}
 use Rattle.mds_store.specs.Periods.{IsOnlyContent}
 use Rattle.mds_store.proofs.PeriodLemmas.{finds_content}
 use Rattle.mds_store.proofs.periods.content_of_period.Goals as goal

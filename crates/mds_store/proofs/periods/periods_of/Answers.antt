@@ -1,6 +1,6 @@
 use Rattle.std.specs.List.{AllPairs}
 use Rattle.sqlite.specs.Held.{state}
-use Rattle.mds_selects.proofs.Asked.{and_then, answers, refused, steady, tables_held, with_both}
+use Rattle.mds_tables.proofs.Asked.{and_then, answers, refused, steady, tables_held, with_both}
 use Rattle.mds_store.specs.Periods.{ArePeriodsIn}
 use Rattle.mds_store.proofs.PeriodLemmas.{IsBefore, finds_periods}
 use Rattle.mds_store.proofs.periods.periods_of.Goals as goal

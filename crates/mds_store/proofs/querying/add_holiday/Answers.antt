@@ -3,7 +3,7 @@ use Rattle.std.proofs.lemmas.Result.{on_ok_weaker}
 use Rattle.sqlite_rules.specs.Edit.{id_in}
 use Rattle.mds_world.specs.Facts.Fact.{HolidayIs}
 use Rattle.mds_tables.specs.RowFacts.{natural}
-use Rattle.mds_selects.proofs.Adding.{adds_one}
+use Rattle.mds_tables.proofs.Adding.{adds_one}
 use Rattle.mds_store.specs.Said.{SaysHoliday}
 use Rattle.mds_store.proofs.Listed.{day_exact, one_holiday}
 use Rattle.mds_store.proofs.querying.add_holiday.Goals as goal

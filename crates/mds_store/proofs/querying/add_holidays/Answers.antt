@@ -1,4 +1,4 @@
-use Rattle.mds_selects.proofs.Adding.{adds_all, adds_more, adds_none}
+use Rattle.mds_tables.proofs.Adding.{adds_all, adds_more, adds_none}
 use Rattle.mds_store.specs.Said.{SaysHoliday}
 use Rattle.mds_store.proofs.querying.add_holidays.Goals as goal
 

@@ -1,5 +1,5 @@
 use Rattle.std.proofs.Common.{take}
-use Rattle.mds_selects.specs.Added.{AreAdded}
+use Rattle.mds_tables.specs.Added.{AreAdded}
 use Rattle.mds_store.specs.Said.{SaysHoliday}
 use Rattle.mds_store.proofs.querying.add_holidays.Given as goal
 

@@ -3,7 +3,7 @@ use Rattle.std.specs.List.{AllPairs}
 use Rattle.std.specs.Ordering.{nat_cmp}
 use Rattle.std.specs.declared.cmp.Ordering.TheVariants.{Less}
 use Rattle.std.proofs.lemmas.Result.{IfOk-weaker}
-use Rattle.mds_selects.proofs.Adding.{just}
+use Rattle.mds_tables.proofs.Adding.{just}
 use Rattle.mds_store.specs.Said.{AreHolidaysIn, SaysHoliday}
 use Rattle.mds_store.proofs.Listed.{rising}
 use Rattle.mds_store.proofs.querying.all_holidays.Goals as goal

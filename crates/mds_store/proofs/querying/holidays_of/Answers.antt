@@ -1,7 +1,7 @@
 use Rattle.std.proofs.Common.{◌<◌}
 use Rattle.std.specs.List.{AllPairs}
 use Rattle.sqlite.specs.Held.{state}
-use Rattle.mds_selects.proofs.Asked.{and_then, answers, refused, steady, tables_held, with_both}
+use Rattle.mds_tables.proofs.Asked.{and_then, answers, refused, steady, tables_held, with_both}
 use Rattle.mds_store.specs.Said.{AreHolidaysIn}
 use Rattle.mds_store.proofs.Listed.{finds_holidays}
 use Rattle.mds_store.proofs.querying.holidays_of.Goals as goal

@@ -1,7 +1,7 @@
 use Rattle.std.proofs.Common.{[], ◌∷◌, refl}
 use Rattle.mds_tables.specs.Cells as row
 use Rattle.mds_tables.specs.Tables.{period_body, period_table, period_tree}
-use Rattle.mds_selects.proofs.QueryLemmas.{finds_rows, period_typed, queried}
+use Rattle.mds_tables.proofs.QueryLemmas.{finds_rows, period_typed, queried}
 use Rattle.mds_store.proofs.ListTexts.{select_content, select_content_is, select_content_plain}
 use Rattle.mds_store.proofs.RowsFound.{content_for}
 use Rattle.mds_store.proofs.rows.content_rows.Goals as goal

@@ -1,6 +1,6 @@
 use Rattle.std.proofs.Common.{[], ◌∷◌, refl}
 use Rattle.mds_tables.specs.Tables.{holiday_day, holiday_table, holiday_tree}
-use Rattle.mds_selects.proofs.QueryLemmas.{finds_rows, holiday_typed, queried}
+use Rattle.mds_tables.proofs.QueryLemmas.{finds_rows, holiday_typed, queried}
 use Rattle.mds_store.proofs.ListTexts.{select_holidays, select_holidays_is, select_holidays_plain}
 use Rattle.mds_store.proofs.rows.holiday_rows.Goals as goal
 

@@ -1,7 +1,7 @@
 use Rattle.std.proofs.Common.{[], ◌∷◌, codes, refl}
 use Rattle.sqlite.specs.declared.types.Value.TheVariants.{Text}
 use Rattle.mds_tables.specs.Tables.{job_body, job_table, job_total, job_tree}
-use Rattle.mds_selects.proofs.QueryLemmas.{finds_rows, job_typed, queried}
+use Rattle.mds_tables.proofs.QueryLemmas.{finds_rows, job_typed, queried}
 use Rattle.mds_store.proofs.ListTexts.{select_job, select_job_is, select_job_plain}
 use Rattle.mds_store.proofs.rows.job_rows.Goals as goal
 

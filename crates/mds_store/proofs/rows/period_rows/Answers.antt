@@ -1,4 +1,4 @@
-use Rattle.mds_selects.proofs.QueryLemmas.{queried}
+use Rattle.mds_tables.proofs.QueryLemmas.{queried}
 use Rattle.mds_store.proofs.ListTexts.{select_periods, select_periods_plain}
 use Rattle.mds_store.proofs.RowsFound.{finds_period_rows}
 use Rattle.mds_store.proofs.rows.period_rows.Goals as goal

@@ -2,7 +2,7 @@ use Rattle.std.proofs.Common.{inl}
 use Rattle.std.proofs.lemmas.Result.{err_from_is_err_and}
 use Rattle.sqlite.specs.Held.{state}
 use Rattle.mds_tables.proofs.CauseLemmas.{store_fails}
-use Rattle.mds_selects.proofs.Asked.{and_then, answers, steady, unanswered, why_failed}
+use Rattle.mds_tables.proofs.Asked.{and_then, answers, steady, unanswered, why_failed}
 use Rattle.mds_tables.specs.Tables.{detail_tree}
 use Rattle.mds_store.specs.Shown.{detail_moment}
 use Rattle.mds_store.proofs.CurrentAdopting.{shows_none}

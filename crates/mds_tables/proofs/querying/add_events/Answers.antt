@@ -1,0 +1,14 @@
+use Rattle.mds_tables.specs.Added.{SaysEvent}
+use Rattle.mds_tables.proofs.Adding.{adds_all, adds_more, adds_none}
+use Rattle.mds_tables.proofs.querying.add_events.Goals as goal
+
+pub loop-i-init : goal.loop-i-init
+loop-i-init c = adds_none SaysEvent _
+
+pub loop-i-preserved : goal.loop-i-preserved
+loop-i-preserved c =
+    adds_more SaysEvent _ _ c.add_event.new.found.keys c.args.rows.now c.loop-i.i c.index-rows-i.result c.loop-i-test.true
+    c.index-rows-i.is c.loop-i.invariant c.in_ok-add_event.ensures
+
+pub returns : goal.returns
+returns c = adds_all SaysEvent _ _ c.args.rows.now c.loop-i.i c.loop-i-test.false c.loop-i.invariant
