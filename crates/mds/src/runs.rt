@@ -1,3 +1,3 @@
 //! The runs of marks over the intervals of a day.
 
-pub use mds_runs::{Cover, Run, RunFault, gather, gather_some, overlay, spread};
+pub use mds_runs::{Cover, DayReadings, Run, RunFault, gather, gather_some, overlay, spread};

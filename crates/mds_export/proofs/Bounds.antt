@@ -72,14 +72,14 @@ run_rows_bounded [] count h few = (h, omega arith)
 run_rows_bounded (run ∷ []) count h few = (All-nil IsInBounds, omega arith)
 run_rows_bounded (run ∷ next ∷ runs) count h few = (h, omega (arith, length-map runs run_row))
 
-day_bounded : (day : SelectedDay) (runs : List Run) (default : Mark) → AreFewest (marks_of day.readings.items) runs
-    → AreLawfulReadings day.readings.items → length day.readings.items ≤ 288
+day_bounded : (day : SelectedDay) (runs : List Run) (default : Mark) → AreFewest (marks_of day.readings) runs
+    → AreLawfulReadings day.readings → length day.readings ≤ 288
     → All IsInBounds (day_row day (mark_of_all runs) ∷ run_rows runs) × (length (run_rows runs) ≤ 288)
 day_bounded day runs default fewest lawful few =
-    let s = spelled_fewest (marks_of day.readings.items) default runs fewest in
-    let size = length-map day.readings.items (λ (r : ReadingValue). r.mark) in
-    let all = run_rows_bounded runs 288 (runs_bounded day.readings.items default 0 runs s lawful few)
-    (omega (arith, few_runs 0 runs (length (marks_of day.readings.items)) s.meets)) in
+    let s = spelled_fewest (marks_of day.readings) default runs fewest in
+    let size = length-map day.readings (λ (r : ReadingValue). r.mark) in
+    let all = run_rows_bounded runs 288 (runs_bounded day.readings default 0 runs s lawful few)
+    (omega (arith, few_runs 0 runs (length (marks_of day.readings)) s.meets)) in
     (All-cons IsInBounds (day_row day (mark_of_all runs)) (run_rows runs) few all.0, all.1)
 
 -- ---- a day that the 200 of the day before it governs
@@ -127,11 +127,11 @@ details_bounded placed = at (is_governed placed.before placed.day) where
 -- what is known of the rows of a day
 pub record AreKnownRows (placed : PlacedDay) (rows : List RowValue) (runs : List Run) : Type 0 where
   pub is_length : is_length placed.day.length ≡ true
-  pub readings : AreLawfulReadings placed.day.readings.items
+  pub readings : AreLawfulReadings placed.day.readings
   pub bounded : All IsInBounds rows
   pub few : length rows ≤ 290
 
-pub known_rows : (placed : PlacedDay) (rows : List RowValue) (runs : List Run) (default : Mark) → AreFewest (marks_of placed.day.readings.items) runs
+pub known_rows : (placed : PlacedDay) (rows : List RowValue) (runs : List Run) (default : Mark) → AreFewest (marks_of placed.day.readings) runs
     → rows ≡ details_rows placed ++ day_row placed.day (mark_of_all runs) ∷ run_rows runs
     → All IsLawful rows → IsMeasured placed.before → IsWhole placed.day → AreKnownRows placed rows runs
 known_rows placed rows runs default fewest e lawful known whole =

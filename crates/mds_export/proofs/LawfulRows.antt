@@ -47,7 +47,7 @@ lawful_runs readings default interval (run ∷ runs) s h =
     (spelled_own (marks_of readings) default interval run runs s interval (omega arith) s.meets.1))
     (lawful_runs readings default run.last runs (spelled_rest (marks_of readings) default interval run runs s) h)
 
-lawful_day : (day : SelectedDay) (runs : List Run) → AreLawfulReadings day.readings.items → All IsLawful (map run_row runs)
+lawful_day : (day : SelectedDay) (runs : List Run) → AreLawfulReadings day.readings → All IsLawful (map run_row runs)
     → All IsLawful (day_row day (mark_of_all runs) ∷ run_rows runs)
 lawful_day day [] h marks = All-cons IsLawful (day_row day None) [] (h, tt) (All-nil IsLawful)
 lawful_day day (run ∷ []) h marks =
@@ -63,7 +63,7 @@ lawful_details placed s d = at (is_governed placed.before placed.day) where
 lawful_placed : (placed : PlacedDay) (rows : List RowValue) → AreDayRows placed rows → IsLawfulStream placed.selected → IsLawfulDay placed.day
     → All IsLawful rows
 lawful_placed placed rows h s d =
-    let readings = placed.day.readings.items in
+    let readings = placed.day.readings in
     let spelled = spelled_fewest (marks_of readings) bare_null h.0 h.1 in
     subst (All IsLawful) (sym h.2) (All-append IsLawful (details_rows placed) (day_row placed.day (mark_of_all h.0) ∷ run_rows h.0)
     (lawful_details placed s d) (lawful_day placed.day h.0 d.2 (lawful_runs readings bare_null 0 h.0 spelled d.2)))

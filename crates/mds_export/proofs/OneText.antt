@@ -61,7 +61,7 @@ one_in_turn Is one (x ∷ xs) a b h g =
 -- a day has one list of rows
 one_day : (placed : PlacedDay) (a b : List RowValue) → AreDayRows placed a → AreDayRows placed b → a ≡ b
 one_day placed a b h g =
-    let runs = one_fewest (marks_of placed.day.readings.items) bare_null h.0 g.0 h.1 g.1 in
+    let runs = one_fewest (marks_of placed.day.readings) bare_null h.0 g.0 h.1 g.1 in
     h.2 ∙ ap (λ rs. details_rows placed ++ day_row placed.day (mark_of_all rs) ∷ run_rows rs) runs ∙ sym g.2
 
 pub one_text : (header : HeaderValue) (streams : List SelectedStream) (a b : List ℕ) → IsExport header streams a → IsExport header streams b → a ≡ b

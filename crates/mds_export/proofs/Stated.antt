@@ -122,13 +122,13 @@ wrote_details lines said header block placed x w r few =
 
 -- how many intervals the day has
 abbrev size_of : PlacedDay → ℕ
-size_of placed = length placed.day.readings.items
+size_of placed = length placed.day.readings
 
 -- what a day states whose 300 has this mark, and these runs
 abbrev pub day_read : PlacedDay → Mark → ℕ → List Run → DayStatement
 day_read placed own line runs = record (day_selected placed) {
   line = line;
-  readings = readings_of (length placed.day.readings.items) own runs (written_values placed.day.readings.items);
+  readings = readings_of (length placed.day.readings) own runs (written_values placed.day.readings);
 }
 
 -- the details of a day, and the day
@@ -144,7 +144,7 @@ pub record OnDay (lines : List (List ℕ)) (said : List Statement) (header : Hea
   pub details : SaysBlock (governors lines).details (block_of placed)
   pub here : line ≡ (governors lines).day_line
   pub own_is : mark_in (size_of placed) (governors lines).day ≡ own
-  pub values : values_in (size_of placed) (governors lines).day ≡ written_values placed.day.readings.items
+  pub values : values_in (size_of placed) (governors lines).day ≡ written_values placed.day.readings
   pub runs_are : (governors lines).runs ≡ runs
   pub run_next : Allows (governors lines) a.IntervalEvent
   pub details_next : Allows (governors lines) a.NmiDataDetails
@@ -164,7 +164,7 @@ on_day lines said header placed mark x w r whole few =
     let number = length lines + 1 in
     let first = open_day lines x (statements lines) is refl in
     let own_is : mark_in n x ≡ own_mark mark = ap (λ o. unwrap_or o bare_null) r.says.2 in
-    let values : values_in n x ≡ written_values placed.day.readings.items = r.says.1 in
+    let values : values_in n x ≡ written_values placed.day.readings = r.says.1 in
     let date : date_in x ≡ placed.day.date = ap (λ o. unwrap_or o 0) r.says.0 in
     let details : details_statement g x ≡ details_selected header.moment placed = λ i. record {
       stream = says.stream i;
@@ -202,7 +202,7 @@ on_day lines said header placed mark x w r whole few =
       details = governs (λ g. SaysBlock g.details (block_of placed)) lines x (Some a.IntervalData) is says;
       here = governs (λ g. number ≡ g.day_line) lines x (Some a.IntervalData) is refl;
       own_is = governs (λ g. mark_in n g.day ≡ own_mark mark) lines x (Some a.IntervalData) is own_is;
-      values = governs (λ g. values_in n g.day ≡ written_values placed.day.readings.items) lines x (Some a.IntervalData) is values;
+      values = governs (λ g. values_in n g.day ≡ written_values placed.day.readings) lines x (Some a.IntervalData) is values;
       runs_are = governs (λ g. g.runs ≡ []) lines x (Some a.IntervalData) is refl;
       run_next = governs (λ g. Allows g a.IntervalEvent) lines x (Some a.IntervalData) is refl;
       details_next = governs (λ g. Allows g a.NmiDataDetails) lines x (Some a.IntervalData) is refl;
@@ -218,7 +218,7 @@ on_run lines said header placed own line before run x w r whole up goes within f
     let is = kind_of_row (run_row run) x r in
     let g = governors lines in
     let n = size_of placed in
-    let readings = placed.day.readings.items in
+    let readings = placed.day.readings in
     let count : count_in g.details ≡ n = w.details.count ∙ sym whole in
     let said_run = run_said run x r.says in
     let fault : fault_of_run g x a.IntervalEvent ≡ None =
@@ -267,13 +267,13 @@ gap_none false c e = refl
 
 pub wrote_day : (lines before : List (List ℕ)) (said : List Statement) (header : HeaderValue) (placed : PlacedDay) (own : Mark) (line : ℕ) (runs : List Run)
     → OnDay lines (statements before) header placed own line runs → map unlined (statements before) ≡ said
-    → size_of placed ≡ count_of placed.day.length → AreLawfulReadings placed.day.readings.items → leaves_gap (size_of placed) own runs ≡ false
-    → ((k : ℕ) → k < size_of placed → slice_get (marks_of placed.day.readings.items) k ≡ Some (mark_at runs own (1 + k)))
+    → size_of placed ≡ count_of placed.day.length → AreLawfulReadings placed.day.readings → leaves_gap (size_of placed) own runs ≡ false
+    → ((k : ℕ) → k < size_of placed → slice_get (marks_of placed.day.readings) k ≡ Some (mark_at runs own (1 + k)))
     → Wrote lines (said ++ with_details header.moment placed (day_selected placed)) header (Some (block_of placed))
 wrote_day lines before said header placed own line runs w stated whole lawful gap marked =
     let g = governors lines in
     let n = size_of placed in
-    let readings = placed.day.readings.items in
+    let readings = placed.day.readings in
     let count : count_in g.details ≡ n = w.details.count ∙ sym whole in
     let back : readings_of n own runs (written_values readings) ≡ readings = readings_back readings own runs lawful marked in
     let say = λ (rs : List Run). with_details header.moment placed (day_read placed own line rs) in

@@ -70,9 +70,9 @@ count_of_marks readings = length-map readings (λ (r : ReadingValue). r.mark)
 
 -- what the rows of a day stand on
 pub record IsFitDay (placed : PlacedDay) (runs : List Run) : Type 0 where
-  pub whole : length placed.day.readings.items ≡ count_of placed.day.length
-  pub lawful : AreLawfulReadings placed.day.readings.items
-  pub fewest : AreFewest (marks_of placed.day.readings.items) runs
+  pub whole : length placed.day.readings ≡ count_of placed.day.length
+  pub lawful : AreLawfulReadings placed.day.readings
+  pub fewest : AreFewest (marks_of placed.day.readings) runs
 
 -- several runs, or none of no intervals
 told_several : (lines : List (List ℕ)) (said : List Statement) (header : HeaderValue) (placed : PlacedDay) (runs : List Run) (x : List ℕ)
@@ -80,7 +80,7 @@ told_several : (lines : List (List ℕ)) (said : List Statement) (header : Heade
     → AreRead (map run_row runs) more → length lines + length (x ∷ more) ≤ most_lines
     → Wrote (lines ++ x ∷ more) (said ++ with_details header.moment placed (day_selected placed)) header (Some (block_of placed))
 told_several lines said header placed runs x more w fit r rest few =
-    let readings = placed.day.readings.items in
+    let readings = placed.day.readings in
     let n = length readings in
     let size = count_of_marks readings in
     let day = on_day lines said header placed None x w r fit.whole (omega arith) in
@@ -100,7 +100,7 @@ told_one : (lines : List (List ℕ)) (said : List Statement) (header : HeaderVal
     → length lines + 1 ≤ most_lines
     → Wrote (lines ++ x ∷ []) (said ++ with_details header.moment placed (day_selected placed)) header (Some (block_of placed))
 told_one lines said header placed run x w fit r few =
-    let readings = placed.day.readings.items in
+    let readings = placed.day.readings in
     let n = length readings in
     let size = count_of_marks readings in
     let day = on_day lines said header placed (Some run.mark) x w r fit.whole few in

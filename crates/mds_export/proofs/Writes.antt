@@ -1,7 +1,7 @@
 -- The text of days, as it is written one day after the other.
 use Rattle.std.proofs.Common.{◌≡◌, ◌+◌, ◌<◌, ℕ, zero, suc, Bool, true, false, cond, List, [], ◌∷◌, ◌++◌, length, map, take, get_or, Option, Some, None, Result, Ok, Err, OnOk, refl, sym, ap, subst, ◌∙◌, arith, append_assoc}
-use Rattle.std.specs.List.{All, last_or}
-use Rattle.std.proofs.lemmas.List.{take_more}
+use Rattle.std.specs.List.{last_or}
+use Rattle.std.proofs.lemmas.List.{map_push, take_more}
 use Rattle.mds_quantity.specs.Append.{Appends}
 use Rattle.mds_marks.specs.declared.mark.Mark.{Mark}
 use Rattle.mds_runs.specs.declared.cover.Run.{Run}
@@ -9,13 +9,11 @@ use Rattle.mds_export.specs.ReadBack.{IsLawful}
 use Rattle.mds_export.specs.Rows.{IsRowText, RowValue, EndRow, HeaderRow}
 use Rattle.mds_statements.specs.Statements.{HeaderValue}
 use Rattle.mds_nem12.proofs.Lasts.{flat_map_push, last_or_push}
-use Rattle.mds_statements.specs.Selected.{IsWhole, days_of}
 use Rattle.mds_export.specs.Placed.{PlacedDay, is_governed, placed_after, placed_days}
 use Rattle.mds_export.specs.Exports.{AreDayRows, AreFewest, AreInTurn, IsExport, day_row, details_row, details_rows, header_row, mark_of_all, marks_of, run_row, run_rows}
 use Rattle.mds_export.specs.WriterSteps.{AreWritten, HasDayText, IsWritten, IsWrittenExport}
 use Rattle.mds_statements.specs.declared.selected.SelectedDay.{SelectedDay}
 use Rattle.mds_statements.specs.declared.selected.SelectedStream.{SelectedStream}
-use Rattle.mds_statements.proofs.SelectedTests.{All-split}
 use Rattle.mds_export.proofs.InTurn.{turn_append, turn_cons, turn_map, turn_one, turn_push}
 
 -- one text after another
@@ -42,38 +40,47 @@ details_new placed old new e lawful line = (
   line.2,
 )
 
--- the 300 and the 400s of a day of one mark, and of several
-pub day_of_one : (day : SelectedDay) (mark : Mark) (first last : ℕ) (old new : List ℕ)
-    → AreFewest (marks_of day.readings.items) (record { first = first; last = last; mark = mark } ∷ [])
-    → (text : List ℕ) × IsWritten (day_row day (Some mark)) text × Appends old new text
+-- the 300 of a day of one run
+pub day_of_one : (day : SelectedDay) (runs : List Run) (run : Run) (old new : List ℕ) → AreFewest (marks_of day.readings) runs
+    → runs ≡ run ∷ [] → (text : List ℕ) × IsWritten (day_row day (Some run.mark)) text × Appends old new text
     → (text : List ℕ) × HasDayText day text × Appends old new text
-day_of_one day mark first last old new fewest line = (
+day_of_one day runs run old new fewest one line = (
   line.0,
-  (
-    record { first = first; last = last; mark = mark } ∷ [],
-    fewest,
-    turn_one IsWritten (day_row day (Some mark)) line.0 line.1,
-  ),
+  (run ∷ [], subst (AreFewest (marks_of day.readings)) one fewest, turn_one IsWritten (day_row day (Some run.mark)) line.0 line.1),
   line.2,
 )
 
-several : (day : SelectedDay) (runs : List Run) (a b : List ℕ) → ((run : Run) → AreFewest (marks_of day.readings.items) (run ∷ []) → ⊥)
-    → AreFewest (marks_of day.readings.items) runs → IsWritten (day_row day None) a
+-- the 300 and the 400s of a day of several
+several : (day : SelectedDay) (runs : List Run) (a b : List ℕ) → (length runs ≡ 1 → ⊥) → IsWritten (day_row day None) a
     → AreInTurn IsWritten (map run_row runs) b
     → AreInTurn IsWritten (day_row day (mark_of_all runs) ∷ run_rows runs) (a ++ b)
-several day [] a b never fewest h g = turn_cons IsWritten (day_row day None) [] a b h g
-several day (run ∷ []) a b never fewest h g = absurd (never run fewest)
-several day (run ∷ next ∷ runs) a b never fewest h g = turn_cons IsWritten (day_row day None) (map run_row (run ∷ next ∷ runs)) a b h g
+several day [] a b never h g = turn_cons IsWritten (day_row day None) [] a b h g
+several day (run ∷ []) a b never h g = absurd (never refl)
+several day (run ∷ next ∷ runs) a b never h g = turn_cons IsWritten (day_row day None) (map run_row (run ∷ next ∷ runs)) a b h g
 
-pub day_of_several : (day : SelectedDay) (old mid new : List ℕ) → ((run : Run) → AreFewest (marks_of day.readings.items) (run ∷ []) → ⊥)
-    → (text : List ℕ) × IsWritten (day_row day None) text × Appends old mid text
-    → (runs : List Run) × AreFewest (marks_of day.readings.items) runs × (text : List ℕ) × AreInTurn IsWritten (map run_row runs) text × Appends mid new text
+pub day_of_several : (day : SelectedDay) (runs : List Run) (old mid new : List ℕ) → AreFewest (marks_of day.readings) runs
+    → (length runs ≡ 1 → ⊥) → (text : List ℕ) × IsWritten (day_row day None) text × Appends old mid text
+    → (text : List ℕ) × AreInTurn IsWritten (map run_row runs) text × Appends mid new text
     → (text : List ℕ) × HasDayText day text × Appends old new text
-day_of_several day old mid new never line rest = (
-  line.0 ++ rest.2,
-  (rest.0, rest.1, several day rest.0 line.0 rest.2 never rest.1 line.1 rest.3),
-  appends_both old mid new line.0 rest.2 line.2 rest.4,
+day_of_several day runs old mid new fewest never line rest = (
+  line.0 ++ rest.0,
+  (runs, fewest, several day runs line.0 rest.0 never line.1 rest.1),
+  appends_both old mid new line.0 rest.0 line.2 rest.2,
 )
+
+-- the lines of runs, one more
+pub runs_step : (runs : List Run) (i : ℕ) (run : Run) (old mid new : List ℕ) → i < length runs → run ≡ get_or runs i run
+    → (text : List ℕ) × AreInTurn IsWritten (map run_row (take i runs)) text × Appends old mid text
+    → (text : List ℕ) × IsRowText (run_row run) text × Appends mid new text → IsLawful (run_row run)
+    → (text : List ℕ) × AreInTurn IsWritten (map run_row (take (i + 1) runs)) text × Appends old new text
+runs_step runs i run old mid new lt is before line lawful =
+    let taken : take (i + 1) runs ≡ take i runs ++ run ∷ [] = take_more runs i run lt ∙ ap (λ x. take i runs ++ x ∷ []) (sym is) in
+    let rows : map run_row (take (i + 1) runs) ≡ map run_row (take i runs) ++ run_row run ∷ [] = ap (map run_row) taken ∙ map_push run_row (take i runs) run in (
+      before.0 ++ line.0,
+      subst (λ rs. AreInTurn IsWritten rs (before.0 ++ line.0)) (sym rows)
+          (turn_push IsWritten (map run_row (take i runs)) (run_row run) before.0 line.0 before.1 (line.1, lawful)),
+      appends_both old mid new before.0 line.0 before.2 line.2,
+    )
 
 pub written_both : (xs ys : List PlacedDay) (a b : List ℕ) → AreWritten xs a → AreWritten ys b → AreWritten (xs ++ ys) (a ++ b)
 written_both xs ys a b h g = record {
@@ -165,15 +172,6 @@ streams_step streams k selected old mid new lt is done more =
           (written_both (placed_days (take k streams)) _ done.0 more.0 done.1 more.1),
       appends_both old mid new done.0 more.0 done.2 more.2,
     )
-
--- the days of one of the streams are whole where all are
-pub whole_here : (streams : List SelectedStream) (k : ℕ) (selected : SelectedStream) → k < length streams → selected ≡ get_or streams k selected
-    → All IsWhole (days_of streams) → All IsWhole selected.days.items
-whole_here [] k selected lt is whole = absurd (omega arith)
-whole_here (s ∷ streams) zero selected lt is whole =
-    subst (λ (t : SelectedStream). All IsWhole t.days.items) (sym is) (All-split IsWhole s.days.items (days_of streams) whole).0
-whole_here (s ∷ streams) (suc k) selected lt is whole =
-    whole_here streams k selected (omega arith) is (All-split IsWhole s.days.items (days_of streams) whole).1
 
 -- a 100 of these texts, the days, and a 900
 pub all_written : (header : HeaderValue) (streams : List SelectedStream) (sender receiver old one two new : List ℕ)

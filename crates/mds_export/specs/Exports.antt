@@ -54,12 +54,12 @@ details_rows placed = if is_governed placed.before placed.day then [] else detai
 
 -- the 300 of a day, with one mark or none
 abbrev pub day_row : SelectedDay → Option Mark → RowValue
-day_row day mark = DayRow day.date day.readings.items mark day.update
+day_row day mark = DayRow day.date day.readings mark day.update
 
 -- the rows of a day
 abbrev pub AreDayRows : PlacedDay → List RowValue → Type 0
 AreDayRows placed rows =
-    (runs : List Run) × AreFewest (marks_of placed.day.readings.items) runs
+    (runs : List Run) × AreFewest (marks_of placed.day.readings) runs
     × (rows ≡ details_rows placed ++ day_row placed.day (mark_of_all runs) ∷ run_rows runs)
 
 -- the 100

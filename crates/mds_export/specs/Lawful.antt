@@ -20,7 +20,7 @@ IsLawfulStream selected =
 abbrev pub IsLawfulDay : SelectedDay → Type 0
 IsLawfulDay day =
     IsTrue (is_length day.length) × IsTrue (is_details day.details)
-    × All (λ reading. IsTrue (is_lawful reading)) day.readings.items
+    × All (λ reading. IsTrue (is_lawful reading)) day.readings
 
 pub record AreLawful (header : HeaderValue) (streams : List SelectedStream) : Type 0 where
   pub sender : IsTrue (is_printable header.sender)

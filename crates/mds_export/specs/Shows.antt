@@ -25,7 +25,7 @@ day_selected placed = record {
   length = placed.day.length;
   unit = placed.day.unit;
   update = placed.day.update;
-  readings = placed.day.readings.items;
+  readings = placed.day.readings;
 }
 
 -- its stream, with its form and its details under the moment of the header

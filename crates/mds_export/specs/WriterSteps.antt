@@ -16,7 +16,7 @@ IsWritten row text = IsRowText row text × IsLawful row
 -- the rows of a day without its 200
 abbrev pub HasDayText : SelectedDay → List ℕ → Type 0
 HasDayText day text =
-    (runs : List Run) × AreFewest (marks_of day.readings.items) runs
+    (runs : List Run) × AreFewest (marks_of day.readings) runs
     × AreInTurn IsWritten (day_row day (mark_of_all runs) ∷ run_rows runs) text
 
 -- the text of days that were written

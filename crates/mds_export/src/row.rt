@@ -9,7 +9,8 @@ use crate::line::{write_field, write_line};
 use crate::value::write_values;
 use itoa::Buffer;
 use mds_quantity::Unit;
-use mds_terms::{Day, Details, Length, Mark, Moment, PrintableText, Reading, Stream};
+use mds_runs::DayReadings;
+use mds_terms::{Day, Details, Length, Mark, Moment, PrintableText, Stream};
 use std::alloc::AllocError;
 
 /// A row of a NEM12 file, with borrowed parts.
@@ -49,7 +50,7 @@ pub struct DetailsRow<'a> {
 pub struct DayRow<'a> {
     pub date: Day,
     /// One for each interval, in order.
-    pub readings: &'a [Reading],
+    pub readings: &'a DayReadings,
     /// The mark of all of them, or `None` if 400 rows follow with the marks.
     pub mark: Option<&'a Mark>,
     pub update: Moment,

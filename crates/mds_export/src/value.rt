@@ -1,47 +1,49 @@
 //! Appending values to a text.
 
-ghost use Rattle.std.specs.Prelude.{◌≡◌, ◌+◌, ◌++◌, ◌^◌, ◌<◌, ◌≤◌, length, vec_capacity, vec_len, pos, unsigned_abs, unwrap_or, IsTrue, OnOk, OnErr};
+ghost use Rattle.std.specs.Prelude.{◌≡◌, ◌+◌, ◌++◌, ◌^◌, ◌<◌, ◌≤◌, length, vec_capacity, vec_len, unsigned_abs, IsTrue, OnOk, OnErr};
 ghost use Rattle.mds_quantity.specs.Append.{Appends};
 ghost use Rattle.mds_quantity.specs.Quantity.{limit, point_and_decimals, sign_of, written};
 ghost use Rattle.std.specs.List.{All};
 ghost use Rattle.mds_marks.specs.Reading.{is_lawful};
-ghost use Rattle.mds_export.specs.Rows.{value_field};
 ghost use Rattle.mds_export.specs.Begun.{Begins};
 ghost use Rattle.mds_export.specs.RowSteps.{closed, value_texts};
 
 use itoa::Buffer;
-use mds_terms::Reading;
+use mds_runs::DayReadings;
 use std::alloc::AllocError;
 
 /// Millionths in one.
 const ONE: u64 = 1_000_000;
 
-/// Appends the value field of each reading and the comma after it, or after an error a part of that.
-pub(crate) fn write_values(readings: &[Reading], out: &mut Vec<u8>) -> Result<(), AllocError>
+/// Appends the value field of each reading and the comma after it, or after an error a part of that. Without a value it is `0`.
+pub(crate) fn write_values(readings: &DayReadings, out: &mut Vec<u8>) -> Result<(), AllocError>
     ensures done { OnOk result (Appends out.old.items out.new.items (value_texts readings.now)) }
-    ensures lawful { OnOk result (All (λ reading. IsTrue (is_lawful reading)) readings.now) }
+    ensures lawful { All (λ reading. IsTrue (is_lawful reading)) readings.now }
     ensures grown { OnErr result (Begins out.old.items out.new.items) }
     ensures full { OnErr result (vec_capacity out.old < vec_len out.old + length (value_texts readings.now)) }
     ensures grows { vec_capacity out.old ≤ vec_capacity out.new }
     ensures len { OnOk result (vec_len out.new ≡ vec_len out.old + length (value_texts readings.now)) }
 {
-    for reading in readings {
-        write_quantity(millionths_of(reading), out)?;
-        out.push(b',')?;
+    // For the proof: each reading is lawful.
+    readings.are_lawful();
+    for number in readings.millionths() {
+        write_number(*number, out)?;
     }
     Ok(())
 }
 
-/// The millionths of a reading's value, or 0 if it has no value.
-fn millionths_of(reading: &Reading) -> i64
-    ensures value { written result ≡ value_field reading.now }
-    ensures small { unsigned_abs result < limit }
-    ensures lawful { IsTrue (is_lawful reading.now) }
+/// Appends the written text of a quantity of this many millionths and a comma, or after an error a part of that.
+fn write_number(millionths: i64, out: &mut Vec<u8>) -> Result<(), AllocError>
+    requires { unsigned_abs millionths < limit }
+    ensures done { OnOk result (Appends out.old.items out.new.items (closed (written millionths))) }
+    ensures grown { OnErr result (Begins out.old.items out.new.items) }
+    ensures full { OnErr result (vec_capacity out.old < vec_len out.old + length (closed (written millionths))) }
+    ensures grows { vec_capacity out.old ≤ vec_capacity out.new }
+    ensures len { OnOk result (vec_len out.new ≡ vec_len out.old + length (closed (written millionths))) }
 {
-    match reading.value() {
-        Some(value) => value.millionths(),
-        None => 0,
-    }
+    write_quantity(millionths, out)?;
+    out.push(b',')?;
+    Ok(())
 }
 
 /// Appends the written text of a quantity of this many millionths, or after an error a part of it.

@@ -9,8 +9,9 @@ use crate::row::{
     DayRow, DetailsRow, HeaderRow, RunRow, write_day, write_details, write_end, write_header,
     write_run,
 };
+use mds_runs::Run;
 use mds_statements::{Header, SelectedDay, SelectedStream, Selection};
-use mds_terms::{Mark, Reading};
+use mds_terms::Mark;
 use std::alloc::AllocError;
 
 /// Appends the text of a selection under a header: the lines of a NEM12 file that reads back as what was selected. It takes
@@ -32,13 +33,10 @@ pub fn write_nem12(
     Ok(())
 }
 
-ghost use Rattle.std.specs.Prelude.{◌<◌, ◌≤◌, ◌≢◌, ◌^◌, [], ◌∷◌, None, Some, IfNone, IfSome, map, length, option_map, slice_get};
-ghost use Rattle.std.specs.List.{All};
-ghost use Rattle.mds_runs.specs.declared.cover.Run.{Run};
+ghost use Rattle.std.specs.Prelude.{[], ◌∷◌, None, map, option_map};
 ghost use Rattle.mds_export.specs.Begun.{Begins};
-ghost use Rattle.mds_statements.specs.Selected.{IsWhole, days_of};
 ghost use Rattle.mds_export.specs.Placed.{is_governed, placed_after, placed_days};
-ghost use Rattle.mds_export.specs.Exports.{AreFewest, AreInTurn, day_row, details_rows, marks_of, run_row};
+ghost use Rattle.mds_export.specs.Exports.{AreInTurn, day_row, details_rows, run_row};
 ghost use Rattle.mds_export.specs.WriterSteps.{AreWritten, HasDayText, IsWritten, IsWrittenExport};
 
 /// Appends the whole text, or after an error a part of it.
@@ -47,7 +45,6 @@ fn write_all(
     header: &Header,
     out: &mut Vec<u8>,
 ) -> Result<(), AllocError>
-    requires { All IsWhole (days_of streams.now) }
     ensures done { OnOk result ((text : List ℕ) × IsWrittenExport (header_value header.now) streams.now text
         × Appends out.old.items out.new.items text) }
     ensures grown { OnErr result (Begins out.old.items out.new.items) }
@@ -64,7 +61,6 @@ fn write_all(
 
 /// Appends the rows of the days of all streams, or after an error a part of that.
 fn write_streams(streams: &[SelectedStream], out: &mut Vec<u8>) -> Result<(), AllocError>
-    requires { All IsWhole (days_of streams.now) }
     ensures done { OnOk result ((text : List ℕ) × AreWritten (placed_days streams.now) text
         × Appends out.old.items out.new.items text) }
     ensures grown { OnErr result (Begins out.old.items out.new.items) }
@@ -77,7 +73,6 @@ fn write_streams(streams: &[SelectedStream], out: &mut Vec<u8>) -> Result<(), Al
 
 /// Appends the rows of the days of a stream, or after an error a part of that.
 fn write_stream(selected: &SelectedStream, out: &mut Vec<u8>) -> Result<(), AllocError>
-    requires { All IsWhole selected.now.days.items }
     ensures done { OnOk result ((text : List ℕ) × AreWritten (placed_after selected.now None selected.now.days.items) text
         × Appends out.old.items out.new.items text) }
     ensures grown { OnErr result (Begins out.old.items out.new.items) }
@@ -97,7 +92,6 @@ fn write_placed(
     day: &SelectedDay,
     out: &mut Vec<u8>,
 ) -> Result<(), AllocError>
-    requires { IsWhole day.now }
     ensures done { OnOk result ((text : List ℕ) × AreWritten (record {
       selected = selected.now;
       before = option_map (λ before. before.now) before.entry;
@@ -105,8 +99,6 @@ fn write_placed(
     } ∷ []) text × Appends out.old.items out.new.items text) }
     ensures grown { OnErr result (Begins out.old.items out.new.items) }
 {
-    // For the proof: the law of lengths bounds the number of a day's readings.
-    let _ = day.length.minutes();
     write_new_details(selected, before, day, out)?;
     write_readings(day, out)
 }
@@ -155,17 +147,17 @@ fn is_governed(before: Option<&SelectedDay>, day: &SelectedDay) -> bool
 
 /// Appends the 300 of a day and its 400s, or after an error a part of that.
 fn write_readings(day: &SelectedDay, out: &mut Vec<u8>) -> Result<(), AllocError>
-    requires { length day.now.readings.items < 2 ^ 16 }
     ensures done { OnOk result ((text : List ℕ) × HasDayText day.now text
         × Appends out.old.items out.new.items text) }
     ensures grown { OnErr result (Begins out.old.items out.new.items) }
 {
     // decides: when is an exported day V with 400 records?
-    let Some(mark) = one_mark(&day.readings) else {
-        write_interval_data(day, None, out)?;
-        return write_runs(&day.readings, out);
-    };
-    write_interval_data(day, Some(mark), out)
+    let runs = day.readings.runs();
+    if runs.len() == 1 {
+        return write_interval_data(day, Some(&runs[0].mark), out);
+    }
+    write_interval_data(day, None, out)?;
+    write_runs(runs, out)
 }
 
 /// Appends the 300 of a day, with one mark or of variable quality, or after an error a part of it.
@@ -187,54 +179,19 @@ fn write_interval_data(
     write_day(&row, out)
 }
 
-/// The mark of all readings, if it is the same.
-fn one_mark(readings: &[Reading]) -> Option<&Mark>
-    ensures some { IfSome result (λ mark. AreFewest (marks_of readings.now)
-        (record { first = 1; last = length readings.now; mark = mark.now } ∷ [])) }
-    ensures none { IfNone result ((run : Run) → AreFewest (marks_of readings.now) (run ∷ []) → ⊥) }
-{
-    let first = readings.first()?;
-    if end_of_run(readings, 0) < readings.len() {
-        return None;
-    }
-    Some(first.mark())
-}
-
-/// Appends a 400 for each maximal stretch of readings with one mark, or after an error a part of that.
-fn write_runs(readings: &[Reading], out: &mut Vec<u8>) -> Result<(), AllocError>
-    requires { length readings.now < 2 ^ 16 }
-    ensures done { OnOk result ((runs : List Run) × AreFewest (marks_of readings.now) runs
-        × (text : List ℕ) × AreInTurn IsWritten (map run_row runs) text × Appends out.old.items out.new.items text) }
+/// Appends a 400 for each run, or after an error a part of that.
+fn write_runs(runs: &[Run], out: &mut Vec<u8>) -> Result<(), AllocError>
+    ensures done { OnOk result ((text : List ℕ) × AreInTurn IsWritten (map run_row runs.now) text
+        × Appends out.old.items out.new.items text) }
     ensures grown { OnErr result (Begins out.old.items out.new.items) }
 {
-    let mut start = 0;
-    while start < readings.len() {
-        let end = end_of_run(readings, start);
+    for run in runs {
         let row = RunRow {
-            first: start as u16 + 1,
-            last: end as u16,
-            mark: readings[start].mark(),
+            first: run.first,
+            last: run.last,
+            mark: &run.mark,
         };
         write_run(&row, out)?;
-        start = end;
     }
     Ok(())
-}
-
-/// The index of the first reading after this one with another mark, or the number of readings.
-fn end_of_run(readings: &[Reading], start: usize) -> usize
-    requires { start < length readings.now }
-    ensures within { (start < result) × (result ≤ length readings.now) }
-    ensures alike { (k : ℕ) → start ≤ k → k < result
-        → slice_get (marks_of readings.now) k ≡ slice_get (marks_of readings.now) start }
-    ensures differs { result < length readings.now
-        → slice_get (marks_of readings.now) result ≢ slice_get (marks_of readings.now) start }
-{
-    let mark = readings[start].mark();
-    for end in start + 1..readings.len() {
-        if !readings[end].mark().is_same(mark) {
-            return end;
-        }
-    }
-    readings.len()
 }

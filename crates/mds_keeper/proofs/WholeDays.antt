@@ -5,7 +5,7 @@ use Rattle.std.specs.List.{AllPairs, slice_get}
 use Rattle.std.proofs.lemmas.Option.{slice_get_cases, slice_get_read}
 use Rattle.mds_quantity.specs.declared.unit.Unit.{Unit as MeasureUnit}
 use Rattle.mds_marks.specs.Reading.{ReadingValue}
-use Rattle.mds_world.specs.Current.{HasNoVersion, IsFormOf, IsLatest}
+use Rattle.mds_world.specs.Current.{HasNoVersion, IsDayReading, IsFormOf, IsLatest}
 use Rattle.mds_world.specs.Facts.Fact.{VersionIs}
 use Rattle.mds_world.specs.Lists.{Member}
 use Rattle.mds_world.specs.Sets.{◌∈◌}
@@ -176,6 +176,13 @@ module _ (b : BookValue) (minutes update : ℕ) (rs : List ReadingValue) (is : b
         );
         none = tt;
       }
+
+  -- its day shows the reading of each interval
+  pub shown_whole : (size : ℕ) (unit : MeasureUnit) → IsFormOf (book_world b) b.stream b.day size unit → (k : ℕ) (r : ReadingValue)
+      → slice_get rs k ≡ Some r → IsDayReading (book_world b) b.stream b.day (k + 1) r
+  shown_whole size unit form k r e =
+      let there = subst (λ n. VersionIs (key_of b n (k + 1) update) r ∈ book_world b) (form_of_whole size unit form) (in_whole k r e) in
+      inl (size, unit, form, inl (update, current_is size (k + 1) update r refl there))
 
   -- it has just the intervals of its length
   pub whole_has : 0 < length rs → (interval : ℕ) → ((1 ≤ interval) × (interval ≤ count_of minutes)) ↔ HasIntervalOf b.rows interval

@@ -1,9 +1,9 @@
 //! A day of a stream, with all its versions.
 
-ghost use Rattle.std.specs.Prelude.{◌≡◌, ◌≢◌, ◌↔◌, ◌<◌, ◌≤◌, ◌⊎◌, ℕ, [], length, max, map, IfSome, IfNone, IfOk, IsTrue, OnErr, Some};
+ghost use Rattle.std.specs.Prelude.{◌≡◌, ◌≢◌, ◌↔◌, ◌<◌, ◌≤◌, ◌⊎◌, ◌+◌, ℕ, [], length, max, map, IfSome, IfNone, IfOk, IsTrue, OnErr, Some};
 ghost use Rattle.std.specs.Bool.{MatchBool};
 ghost use Rattle.std.specs.FinSet as set;
-ghost use Rattle.std.specs.List.{AllPairs, reduce};
+ghost use Rattle.std.specs.List.{AllPairs, reduce, slice_get};
 ghost use Rattle.mds_calendar.specs.Length.{count_of};
 ghost use Rattle.mds_quantity.specs.declared.unit.Unit.{Unit as MeasureUnit};
 ghost use Rattle.mds_world.specs.Current.{HasNoVersion, IsDayReading, IsFormOf, IsHeadOf, IsLatest};
@@ -218,6 +218,7 @@ impl DayBook {
 
     /// The current version of an interval: that of the day's length with the greatest update. `None` if it has no version; then
     /// its reading is bare N.
+    #[inline(always)]
     pub fn current(&self, interval: u16) -> Option<LentVersion<'_>>
         ensures some { IfSome result (λ version. (unit : MeasureUnit)
             × IsFormOf (book_world self.now) self.now.stream self.now.day version.length unit
@@ -237,6 +238,19 @@ impl DayBook {
             LentRows::Whole(length, update, readings) => {
                 lent_at(length, update, readings, interval)
             }
+        }
+    }
+
+    /// The current readings of all its intervals, in order, if it keeps them together. `None` says nothing of them.
+    pub fn whole_readings(&self) -> Option<&DayReadings>
+        ensures { IfSome result (λ readings. (i : ℕ) (reading : ReadingValue) → slice_get readings.now i ≡ Some reading
+            → IsDayReading (book_world self.now) self.now.stream self.now.day (i + 1) reading) }
+    {
+        // For the proof: a day with versions has a form.
+        self.form()?;
+        match self.lent_rows() {
+            LentRows::Each(_) => None,
+            LentRows::Whole(_, _, readings) => Some(readings),
         }
     }
 
@@ -405,6 +419,7 @@ fn row_under(rows: &[(u16, Version)], interval: u16, update: Moment) -> Option<L
 }
 
 /// The version of an interval if each of a length has one, all under one update.
+#[inline(always)]
 fn lent_at(
     length: Length,
     update: Moment,

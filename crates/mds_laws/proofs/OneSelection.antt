@@ -36,7 +36,7 @@ record IsSameDay (a b : SelectedDay) : Type 0 where
   unit : a.unit ≡ b.unit
   details : a.details ≡ b.details
   update : a.update ≡ b.update
-  readings : a.readings.items ≡ b.readings.items
+  readings : a.readings ≡ b.readings
 
 record IsSameStream (a b : SelectedStream) : Type 0 where
   stream : a.stream ≡ b.stream
@@ -70,7 +70,7 @@ module _ (w : World) (agrees : Agrees w) where
             (subst (λ d. IsLatest w t d a.length a.update) date
             (subst (λ z. IsLatest w z a.date a.length a.update) same x.update)))
             y.update;
-        readings = one_by_places a.readings.items b.readings.items
+        readings = one_by_places a.readings b.readings
             (x.readings.count_is ∙ ap count_of form.0 ∙ sym y.readings.count_is)
             (λ k p q e f. one_day_reading w t b.date (k + 1) p q agrees
             (subst (λ d. IsDayReading w t d (k + 1) p) date

@@ -136,5 +136,5 @@ readings_show_days w s first last d text answer lawful tells from to day =
 
 pub readings_show_exports : ReadingsShowExports
 readings_show_exports w s first last text selected lawful tells from to day =
-    readings_show w s first last selected.date selected.length selected.unit selected.readings.items text lawful.agrees tells from
+    readings_show w s first last selected.date selected.length selected.unit selected.readings text lawful.agrees tells from
     to day.form day.readings

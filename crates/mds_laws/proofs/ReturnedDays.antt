@@ -51,7 +51,7 @@ module _ (w : World) (nmi : List ℕ) (suffixes : List (List ℕ)) (first last :
       let chosen : IsChosen streams selected day = v.3 in
       let same : key ≡ key_of selected day (k + 1) = v.5 in
       let at : key.interval ≡ k + 1 = ap (λ (x : Key). x.interval) same in
-      let within = slice_get_within day.readings.items k reading v.4 in
+      let within = slice_get_within day.readings k reading v.4 in
       let size = (day_is selected day chosen).readings.count_is in
       let high : key.interval ≤ count_of day.length = omega (arith, at, within, size) in (
         day.unit,
@@ -70,7 +70,7 @@ module _ (w : World) (nmi : List ℕ) (suffixes : List (List ℕ)) (first last :
 
   -- a reading of a day that is selected is one of the day's current length
   reading_there : (selected : SelectedStream) (day : SelectedDay) → IsChosen streams selected day → (k : ℕ)
-      (reading : ReadingValue) → slice_get day.readings.items k ≡ Some reading
+      (reading : ReadingValue) → slice_get day.readings k ≡ Some reading
       → IsReading w selected.stream day.date day.length (k + 1) reading
   reading_there selected day chosen k reading at =
       let d = day_is selected day chosen in
@@ -85,9 +85,9 @@ module _ (w : World) (nmi : List ℕ) (suffixes : List (List ℕ)) (first last :
   whole selected day chosen zero low high = absurd (omega (arith, low))
   whole selected day chosen (suc k) low high =
       let size = (day_is selected day chosen).readings.count_is in
-      let less : k < length day.readings.items = omega (arith, high, size) in
-      let reading : ReadingValue = get_or day.readings.items k no_reading in
-      let at = slice_get-get_or day.readings.items k no_reading less in
+      let less : k < length day.readings = omega (arith, high, size) in
+      let reading : ReadingValue = get_or day.readings k no_reading in
+      let at = slice_get-get_or day.readings k no_reading less in
       let z : k + 1 ≡ suc k = omega arith in (
         reading,
         subst (λ n. VersionIs (key_of selected day n) reading ∈ stated (selection_stated header streams)) z

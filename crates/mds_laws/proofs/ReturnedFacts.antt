@@ -111,7 +111,7 @@ key_of selected day interval =
 
 -- the facts of a selected day
 abbrev pub facts_of_day : SelectedStream → SelectedDay → List Fact
-facts_of_day selected day = day_facts selected.stream day.date day.length day.unit day.update day.readings.items
+facts_of_day selected day = day_facts selected.stream day.date day.length day.unit day.update day.readings
 
 -- a day of a selected stream
 abbrev pub IsChosen : List SelectedStream → SelectedStream → SelectedDay → Type 0
@@ -205,7 +205,7 @@ module _ (header : HeaderValue) (streams : List SelectedStream) where
         | inr m ↦ elim m [
           | inl e ↦ (o.selected, o.day, o.chosen, same_head _ _ e)
           | inr n ↦
-              let v = from_versions o.selected.stream o.day.date o.day.length o.day.update 1 o.day.readings.items (HeadIs head) n in
+              let v = from_versions o.selected.stream o.day.date o.day.length o.day.update 1 o.day.readings (HeadIs head) n in
               let e = v.3 in
               cc
         ]
@@ -215,7 +215,7 @@ module _ (header : HeaderValue) (streams : List SelectedStream) where
   pub version_whence : (key : Key) (reading : ReadingValue)
       → VersionIs key reading ∈ stated (selection_stated header streams)
       → (selected : SelectedStream) × (day : SelectedDay) × (k : ℕ) × IsChosen streams selected day
-      × (slice_get day.readings.items k ≡ Some reading) × (key ≡ key_of selected day (k + 1))
+      × (slice_get day.readings k ≡ Some reading) × (key ≡ key_of selected day (k + 1))
   version_whence key reading h =
       let o = origin (VersionIs key reading) h in
       elim o.is [
@@ -223,7 +223,7 @@ module _ (header : HeaderValue) (streams : List SelectedStream) where
         | inr m ↦ elim m [
           | inl e ↦ cc
           | inr n ↦
-              let v = from_versions o.selected.stream o.day.date o.day.length o.day.update 1 o.day.readings.items _ n in
+              let v = from_versions o.selected.stream o.day.date o.day.length o.day.update 1 o.day.readings _ n in
               let same = same_key _ _ _ _ v.3 in
               let z : 1 + v.0 ≡ v.0 + 1 = omega arith in (
                 o.selected,
@@ -246,7 +246,7 @@ module _ (header : HeaderValue) (streams : List SelectedStream) where
         | inr m ↦ elim m [
           | inl e ↦ cc
           | inr n ↦
-              let v = from_versions o.selected.stream o.day.date o.day.length o.day.update 1 o.day.readings.items _ n in
+              let v = from_versions o.selected.stream o.day.date o.day.length o.day.update 1 o.day.readings _ n in
               let e = v.3 in
               cc
         ]
@@ -262,7 +262,7 @@ module _ (header : HeaderValue) (streams : List SelectedStream) where
         | inr m ↦ elim m [
           | inl e ↦ cc
           | inr n ↦
-              let v = from_versions o.selected.stream o.day.date o.day.length o.day.update 1 o.day.readings.items _ n in
+              let v = from_versions o.selected.stream o.day.date o.day.length o.day.update 1 o.day.readings _ n in
               let e = v.3 in
               cc
         ]
@@ -288,13 +288,13 @@ module _ (header : HeaderValue) (streams : List SelectedStream) where
 
   -- and each of its readings
   pub version_stated : (selected : SelectedStream) (day : SelectedDay) → IsChosen streams selected day → (k : ℕ)
-      (reading : ReadingValue) → slice_get day.readings.items k ≡ Some reading
+      (reading : ReadingValue) → slice_get day.readings k ≡ Some reading
       → VersionIs (key_of selected day (k + 1)) reading ∈ stated (selection_stated header streams)
   version_stated selected day chosen k reading at =
       let z : 1 + k ≡ k + 1 = omega arith in
       subst (λ n. VersionIs (key_of selected day n) reading ∈ stated (selection_stated header streams)) z
       (day_in selected day chosen (VersionIs (key_of selected day (1 + k)) reading)
-      (inr (to_versions selected.stream day.date day.length day.update 1 day.readings.items k reading at)))
+      (inr (to_versions selected.stream day.date day.length day.update 1 day.readings k reading at)))
 
   -- and so are its details
   pub detail_stated : (selected : SelectedStream) (day : SelectedDay) → IsChosen streams selected day

@@ -56,4 +56,4 @@ ReadingsShowExports =
     (w : World) (stream : Stream) (first last : ℕ) (readings : Vec ℕ Global) (selected : SelectedDay) → IsLawful w
     → TellsReadings w stream first last (told.Readings readings) → first ≤ selected.date → selected.date ≤ last
     → IsSelectedDay w stream selected
-    → HasDayOf stream selected.date selected.length selected.unit selected.readings.items readings.items
+    → HasDayOf stream selected.date selected.length selected.unit selected.readings readings.items

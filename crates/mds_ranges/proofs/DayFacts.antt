@@ -1,5 +1,5 @@
 -- What a day's book says of its World: its current readings, its latest update and its form.
-use Rattle.std.proofs.Common.{◌≡◌, ℕ, ◌+◌, List, [], ◌∷◌, ◌++◌, length, get_or, Option, Some, refl, sym, ap, ◌∙◌, subst, inl, inr, arith}
+use Rattle.std.proofs.Common.{◌≡◌, ℕ, ◌+◌, List, [], ◌∷◌, ◌++◌, length, get_or, slice_get, Option, Some, refl, sym, ap, ◌∙◌, subst, inl, inr, arith}
 use Rattle.std.specs.Prelude.{IfOk, Result, Ok, Err}
 use Rattle.std.proofs.lemmas.Bool.{cases_lt}
 use Rattle.std.proofs.lemmas.List.{get_or_append_left, length-append}
@@ -13,10 +13,8 @@ use Rattle.mds_world.specs.Current.{IsCurrentDetails, IsDayReading, IsFormOf, Is
 use Rattle.mds_world.specs.Facts.Fact.{HeadIs}
 use Rattle.mds_world.specs.World.{IsCurrent, IsKnownDay, World}
 use Rattle.mds_keeper.specs.Books.{BookValue, IsDay, book_world}
-use Rattle.mds_keeper.specs.LentVersions.{reading_of}
-use Rattle.mds_keeper.specs.declared.lent_version.LentVersion.{LentVersion}
 use Rattle.mds_statements.specs.declared.selected.SelectedDay.{SelectedDay}
-use Rattle.mds_registers.proofs.BookReadings.{form_in}
+use Rattle.mds_registers.proofs.BookReadings.{day_reading_in, form_in}
 use Rattle.mds_ranges.specs.Readings.{AreReadings}
 use Rattle.mds_ranges.specs.Selections.{IsSelectedDay}
 
@@ -47,15 +45,16 @@ latest_in w book minutes u day latest = record {
   greatest = λ i other r current. latest.greatest i other r (current_out w book minutes i other r day current);
 }
 
--- a copy of the version that a book lends is the reading that it shows
-pub copy_shows : {E : Type 0} (book : BookValue) (i : ℕ) (lent : Option LentVersion) (version : LentVersion) (copy : Result ReadingValue E)
-    → lent ≡ Some version → IfOk copy (λ c. c ≡ record { mark = version.mark.now; value = version.value })
-    → IsDayReading (book_world book) book.stream book.day i (reading_of lent)
-    → IfOk copy (IsDayReading (book_world book) book.stream book.day i)
-copy_shows book i lent version (Ok c) same e is =
-    let shown = λ (r : ReadingValue). IsDayReading (book_world book) book.stream book.day i r in
-    subst shown (sym e) (subst (λ o. shown (reading_of o)) same is)
-copy_shows book i lent version (Err x) same e is = tt
+-- the readings of a book that keeps them together, and a copy of them
+pub readings_whole : {E : Type 0} (w : World) (book : BookValue) (count : ℕ) (own : List ReadingValue) (copy : Result (List ReadingValue) E)
+    → IsDay w book → length own ≡ count
+    → ((i : ℕ) (r : ReadingValue) → slice_get own i ≡ Some r → IsDayReading (book_world book) book.stream book.day (i + 1) r)
+    → IfOk copy (λ c. c ≡ own) → IfOk copy (AreReadings w book.stream book.day count)
+readings_whole w book count own (Ok c) is size shown e = subst (AreReadings w book.stream book.day count) (sym e) (record {
+  count_is = size;
+  each = λ i r h. day_reading_in w book (i + 1) r is (shown i r h);
+})
+readings_whole w book count own (Err x) is size shown e = tt
 
 -- one more reading
 pub readings_more : (w : World) (s : Stream) (d i : ℕ) (xs ys : List ReadingValue) (r : ReadingValue)
@@ -85,12 +84,12 @@ pub selected_of : (w : World) (book : BookValue) (day : SelectedDay) → IsDay w
     → IsFormOf (book_world book) book.stream book.day day.length day.unit → IsCurrentDetails w book.stream book.day day.details
     → ((minutes : ℕ) (unit : MeasureUnit) → IsFormOf (book_world book) book.stream book.day minutes unit
     → IsLatest (book_world book) book.stream book.day minutes day.update)
-    → AreReadings w book.stream book.day (count_of day.length) day.readings.items → IsSelectedDay w book.stream day
+    → AreReadings w book.stream book.day (count_of day.length) day.readings → IsSelectedDay w book.stream day
 selected_of w book day is at some details latest readings = record {
   form = subst (λ n. IsFormOf w book.stream n day.length day.unit) (sym at)
       (form_in w book day.length day.unit is some);
   details = subst (λ n. IsCurrentDetails w book.stream n day.details) (sym at) details;
   update = subst (λ n. IsLatest w book.stream n day.length day.update) (sym at) (latest_in w book day.length day.update is
       (latest day.length day.unit some));
-  readings = subst (λ n. AreReadings w book.stream n (count_of day.length) day.readings.items) (sym at) readings;
+  readings = subst (λ n. AreReadings w book.stream n (count_of day.length) day.readings) (sym at) readings;
 }

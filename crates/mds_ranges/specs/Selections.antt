@@ -35,7 +35,7 @@ pub record IsSelectedDay (w : World) (stream : Stream) (day : SelectedDay) : Typ
   pub form : IsFormOf w stream day.date day.length day.unit
   pub details : IsCurrentDetails w stream day.date day.details
   pub update : IsLatest w stream day.date day.length day.update
-  pub readings : AreReadings w stream day.date (count_of day.length) day.readings.items
+  pub readings : AreReadings w stream day.date (count_of day.length) day.readings
 
 -- The known days of a stream in a range, ascending.
 pub record AreSelectedDays (w : World) (stream : Stream) (first last : ℕ) (days : List SelectedDay) : Type 0 where

@@ -1,15 +1,16 @@
 -- Runs that hold each interval up to an end, of which no two beside each other have one mark.
-use Rattle.std.proofs.Common.{◌≡◌, ◌<◌, ◌≤◌, ◌+◌, ◌-◌, ℕ, zero, suc, true, false, Bool, IsTrue, ◌↔◌, Option, Some, None, option_map, List, [], ◌∷◌, ◌++◌, length, map, get_or, slice_get, set, replicate, refl, sym, ap, ◌∙◌, arith, append_assoc}
+use Rattle.std.proofs.Common.{◌≡◌, ◌≢◌, ◌<◌, ◌≤◌, ◌+◌, ◌-◌, ℕ, zero, suc, true, false, Bool, IsTrue, ◌↔◌, Option, Some, None, option_map, List, [], ◌∷◌, ◌++◌, length, map, get_or, slice_get, set, replicate, refl, sym, ap, subst, true≢false, ◌∙◌, arith, append_assoc}
 use Rattle.std.proofs.lemmas.List.{append-nil, length-append, length-replicate, map-append, replicate-append-replicate}
 use Rattle.mds_marks.specs.declared.mark.Mark.{Mark}
 use Rattle.mds_runs.specs.declared.cover.Run.{Run}
 use Rattle.mds_runs.specs.Runs.{last_end}
 use Rattle.mds_runs.specs.RunSteps.{end_of}
-use Rattle.mds_runs.specs.Gaps.{runs_of}
+use Rattle.mds_runs.specs.Gaps.{goes_on, joined, runs_of}
 use Rattle.mds_runs.specs.GapSteps.{marks_after, are_parted, end_of as gap_end}
 use Rattle.mds_runs.specs.KeptReadings.{AreClose, EndBefore, IsOther, lengthened, marks_in}
 use Rattle.mds_runs.proofs.RunFacts.{last_end-is}
-use Rattle.mds_runs.proofs.GapRuns.{first_touches, follows-made, goes_on-other, runs_back}
+use Rattle.mds_runs.proofs.Tilings.{Tile, Tiles}
+use Rattle.mds_runs.proofs.GapRuns.{first_touches, follows-made, goes_on-facts, goes_on-next, goes_on-other, joined-off, joined-on, runs_back}
 
 -- ---- their end, and the marks of their intervals
 
@@ -129,6 +130,84 @@ runs-back runs end h =
     none_touched : (runs : List Run) → first_touches None runs ≡ false
     none_touched [] = refl
     none_touched (run ∷ runs) = refl
+
+-- ---- the runs of marks
+
+-- the first of other marks is another one
+first_other : (mark : Mark) (place : ℕ) (runs : List Run) (end : ℕ) → IsOther mark runs → AreClose place runs end
+    → slice_get (marks_in place runs) 0 ≡ Some mark → ⊥
+first_other mark place [] end other h e = cc
+first_other mark place (run ∷ runs) end other h e =
+    let own = front_at (run.last - place) run.mark (marks_in run.last runs) 0 (omega (arith, h.1)) in
+    other (some_same mark run.mark (sym e ∙ own))
+  where
+    some_same : (m n : Mark) → Some m ≡ Some n → m ≡ n
+    some_same m n e = cc
+
+-- each is as long as the mark stays the same
+pub Tiles-close : (marks : List Mark) (place : ℕ) (runs : List Run) (end : ℕ) → AreClose place runs end
+    → ((k : ℕ) → slice_get marks (place + k) ≡ slice_get (marks_in place runs) k) → Tiles marks place runs end
+Tiles-close marks place [] end h same = h
+Tiles-close marks place (run ∷ runs) end h same =
+    let n = run.last - place in
+    let later : (k : ℕ) → slice_get marks (run.last + k) ≡ slice_get (marks_in run.last runs) k = λ k.
+    let at : place + (n + k) ≡ run.last + k = omega (arith, h.1) in
+    ap (slice_get marks) (sym at) ∙ same (n + k) ∙ behind_at n run.mark (marks_in run.last runs) k in
+    let tile : Tile marks place run = record {
+      first = h.0;
+      grows = h.1;
+      alike = λ k lo hi.
+          let at : place + (k - place) ≡ k = omega arith in
+          ap (slice_get marks) (sym at) ∙ same (k - place) ∙ front_at n run.mark (marks_in run.last runs) (k - place) (omega arith);
+      differs = λ e.
+          let at : run.last + 0 ≡ run.last = omega arith in
+          first_other run.mark run.last runs end h.2 h.3 (sym (later 0) ∙ ap (slice_get marks) at ∙ e);
+    } in
+    (tile, Tiles-close marks run.last runs end h.3 later)
+
+-- runs of the intervals after a place that have these marks
+pub record AreRunsFor (place : ℕ) (marks : List Mark) (runs : List Run) : Type 0 where
+  pub close : AreClose place runs (place + length marks)
+  pub spread : marks_in place runs ≡ marks
+
+joined-close : (place : ℕ) (m : Mark) (ms : List Mark) (runs : List Run) → AreRunsFor (place + 1) ms runs
+    → AreRunsFor place (m ∷ ms) (joined (place + 1) m runs)
+joined-close place m ms [] h =
+    let one : place + 1 - place ≡ 1 = omega arith in
+    record {
+      close = (refl, omega arith, tt, omega (arith, h.close));
+      spread = ap (λ n. replicate n m ++ []) one ∙ ap (λ l. m ∷ l) h.spread;
+    }
+joined-close place m ms (run ∷ runs) h = elim (goes_on (place + 1) m run) as (λ b. goes_on (place + 1) m run ≡ b → AreRunsFor place (m ∷ ms) (joined (place + 1) m (run ∷ runs))) [
+  | true ↦ λ e.
+      let same = (goes_on-facts (place + 1) m run e).1 in
+      let size : run.last - place ≡ suc (run.last - (place + 1)) = omega (arith, h.close.1) in
+      subst (AreRunsFor place (m ∷ ms)) (sym (joined-on (place + 1) m run runs e)) (record {
+        close = (
+          refl,
+          omega (arith, h.close.1),
+          subst (λ x. IsOther x runs) (sym same) h.close.2,
+          subst (AreClose run.last runs) end h.close.3,
+        );
+        spread = ap (λ n. replicate n m ++ marks_in run.last runs) size
+            ∙ ap (λ x. m ∷ (replicate (run.last - (place + 1)) x ++ marks_in run.last runs)) same
+            ∙ ap (λ l. m ∷ l) h.spread;
+      })
+  | false ↦ λ e.
+      let one : place + 1 - place ≡ 1 = omega arith in
+      let other : m ≢ run.mark = λ same. true≢false (sym (goes_on-next (place + 1) m run h.close.0 (sym same)) ∙ e) in
+      subst (AreRunsFor place (m ∷ ms)) (sym (joined-off (place + 1) m run runs e)) (record {
+        close = (refl, omega arith, other, (h.close.0, h.close.1, h.close.2, subst (AreClose run.last runs) end h.close.3));
+        spread = ap (λ n. replicate n m ++ marks_in (place + 1) (run ∷ runs)) one ∙ ap (λ l. m ∷ l) h.spread;
+      })
+] refl
+  where
+    end : place + 1 + length ms ≡ place + suc (length ms)
+    end = omega arith
+
+pub runs_of-close : (place : ℕ) (marks : List Mark) → AreRunsFor place marks (runs_of (place + 1) (map (λ (m : Mark). Some m) marks))
+runs_of-close place [] = record { close = omega arith; spread = refl }
+runs_of-close place (m ∷ ms) = joined-close place m ms (runs_of (place + 1 + 1) (map (λ (x : Mark). Some x) ms)) (runs_of-close (place + 1) ms)
 
 -- ---- more intervals behind their end
 

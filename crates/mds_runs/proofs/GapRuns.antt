@@ -58,11 +58,11 @@ same_mark_decides a b false h = elim (same_mark a b) as (λ c. same_mark a b ≡
   | false ↦ λ e. refl
 ] refl
 
-goes_on-next : (place : ℕ) (m : Mark) (run : Run) → run.first ≡ place + 1 → run.mark ≡ m → goes_on place m run ≡ true
+pub goes_on-next : (place : ℕ) (m : Mark) (run : Run) → run.first ≡ place + 1 → run.mark ≡ m → goes_on place m run ≡ true
 goes_on-next place m run e same =
     ap (λ b. b && same_mark m run.mark) (eq-eqb run.first (place + 1) e) ∙ ap (same_mark m) same ∙ same_mark-refl m
 
-goes_on-facts : (place : ℕ) (m : Mark) (run : Run) → goes_on place m run ≡ true → (run.first ≡ place + 1) × (m ≡ run.mark)
+pub goes_on-facts : (place : ℕ) (m : Mark) (run : Run) → goes_on place m run ≡ true → (run.first ≡ place + 1) × (m ≡ run.mark)
 goes_on-facts place m run e =
     let p = and_both _ _ e in
     (eqb-true run.first (place + 1) p.0, same_mark-is m run.mark p.1)
@@ -78,10 +78,10 @@ goes_on-other place m run h = elim (goes_on place m run) as (λ b. goes_on place
 abbrev run_from : ℕ → ℕ → Mark → Run
 run_from first last mark = record { first = first; last = last; mark = mark }
 
-joined-on : (place : ℕ) (m : Mark) (run : Run) (runs : List Run) → goes_on place m run ≡ true → joined place m (run ∷ runs) ≡ run_from place run.last m ∷ runs
+pub joined-on : (place : ℕ) (m : Mark) (run : Run) (runs : List Run) → goes_on place m run ≡ true → joined place m (run ∷ runs) ≡ run_from place run.last m ∷ runs
 joined-on place m run runs e = ap (λ b. cond b (run_from place run.last m ∷ runs) (run_from place place m ∷ run ∷ runs)) e
 
-joined-off : (place : ℕ) (m : Mark) (run : Run) (runs : List Run) → goes_on place m run ≡ false → joined place m (run ∷ runs) ≡ run_from place place m ∷ run ∷ runs
+pub joined-off : (place : ℕ) (m : Mark) (run : Run) (runs : List Run) → goes_on place m run ≡ false → joined place m (run ∷ runs) ≡ run_from place place m ∷ run ∷ runs
 joined-off place m run runs e = ap (λ b. cond b (run_from place run.last m ∷ runs) (run_from place place m ∷ run ∷ runs)) e
 
 -- the first of the runs lies after the places before, and has a place

@@ -1,5 +1,5 @@
 -- Readings as they are kept.
-use Rattle.std.proofs.Common.{◌≡◌, ◌≢◌, ◌<◌, ◌+◌, ◌-◌, ◌^◌, ◌↔◌, ℕ, zero, suc, true, false, cond, Bool, not, ◌==◌, ◌&&◌, ◌||◌, nat_lt, IsTrue, Result, Ok, Err, IsOk, OnOk, Option, Some, None, IfNone, IfSome, IsSome, option_map, List, [], ◌∷◌, ◌++◌, length, map, get_or, slice_get, replicate, take, append_assoc, ℤ, pos, negsuc, unsigned_abs, is_none, is_some, refl, sym, ap, subst, ◌∙◌, arith, of_z, to_z, w64}
+use Rattle.std.proofs.Common.{◌≡◌, ◌≢◌, ◌<◌, ◌+◌, ◌-◌, ◌^◌, ◌↔◌, ℕ, zero, suc, true, false, cond, Bool, not, ◌==◌, ◌&&◌, ◌||◌, nat_lt, IsTrue, Result, Ok, Err, IsOk, OnOk, Option, Some, None, IfNone, IfSome, IsSome, option_map, List, [], ◌∷◌, ◌++◌, length, map, get_or, slice_get, replicate, take, append_assoc, ℤ, pos, negsuc, unsigned_abs, unwrap_or, is_none, is_some, refl, sym, ap, subst, ◌∙◌, arith, of_z, to_z, w64}
 use Rattle.std.specs.List.{list_all, zip}
 use Rattle.std.specs.Option.{SomeIff}
 use Rattle.std.proofs.lemmas.Bool.{eqb-true, and_from}
@@ -196,6 +196,29 @@ same-kept m n y z a b e =
   where
     some_same : (y z : ℤ) → Some y ≡ Some z → y ≡ z
     some_same y z e = cc
+
+-- the value of each reading, or 0
+value-number : (m : Mark) (z : ℤ) → is_pair_kept (m, z) ≡ true → unwrap_or (kept_value m.quality.flag z) (pos 0) ≡ z
+value-number m z e = elim (m.quality.flag == null) as (λ b. (m.quality.flag == null) ≡ b → unwrap_or (cond b None (Some z)) (pos 0) ≡ z) [
+  | true ↦ λ is. sym (zero-from m z e is)
+  | false ↦ λ is. refl
+] refl
+
+numbers : (ms : List Mark) (zs : List ℤ) → length ms ≡ length zs → list_all is_pair_kept (zip ms zs) ≡ true
+    → map (λ (r : ReadingValue). unwrap_or r.value (pos 0)) (map reading_kept (zip ms zs)) ≡ zs
+numbers [] [] e all = refl
+numbers [] (z ∷ zs) e all = absurd (omega arith)
+numbers (m ∷ ms) [] e all = absurd (omega arith)
+numbers (m ∷ ms) (z ∷ zs) e all =
+    let q = both (is_pair_kept (m, z)) (list_all is_pair_kept (zip ms zs)) all in
+    ap (λ (x : ℤ). x ∷ map (λ (r : ReadingValue). unwrap_or r.value (pos 0)) (map reading_kept (zip ms zs))) (value-number m z q.0)
+    ∙ ap (λ l. z ∷ l) (numbers ms zs (omega arith) q.1)
+
+pub kept-numbers : (runs : List Run) (zs : List ℤ) (v : List ReadingValue) → AreKept runs zs → readings_kept runs zs ≡ v
+    → zs ≡ map (λ (r : ReadingValue). unwrap_or r.value (pos 0)) v
+kept-numbers runs zs v kept is =
+    let n = length-marks 0 runs (length zs) kept.close in
+    sym (numbers (marks_in 0 runs) zs (omega arith) kept.lawful) ∙ ap (map (λ (r : ReadingValue). unwrap_or r.value (pos 0))) is
 
 -- ---- one index of two lists of readings
 

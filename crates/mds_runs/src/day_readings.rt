@@ -1,6 +1,6 @@
 //! The readings of a day as they are kept: runs of marks, and eight bytes for each value.
 
-ghost use Rattle.std.specs.Prelude.{◌≡◌, ◌≢◌, ◌↔◌, ◌==◌, ◌+◌, ◌-◌, ◌<◌, ◌≤◌, ◌^◌, ℕ, [], ◌∷◌, ◌++◌, IfNone, IfOk, IfSome, IsOk, IsTrue, None, OnErr, OnOk, Some, get_or, length, map, option_map, pos, replicate, vec_capacity, vec_len};
+ghost use Rattle.std.specs.Prelude.{◌≡◌, ◌≢◌, ◌↔◌, ◌==◌, ◌+◌, ◌-◌, ◌<◌, ◌≤◌, ◌^◌, ℕ, [], ◌∷◌, ◌++◌, IfNone, IfOk, IfSome, IsOk, IsTrue, None, OnErr, OnOk, Some, get_or, length, map, option_map, pos, replicate, unwrap_or, vec_capacity, vec_len};
 ghost use Rattle.std.specs.List.{list_all, slice_get};
 ghost use Rattle.mds_marks.specs.Quality.{null};
 ghost use Rattle.mds_marks.specs.Reading.{ReadingValue, is_lawful, is_reading};
@@ -174,6 +174,25 @@ impl DayReadings {
         ensures { result.now ≡ runs_of 1 (map (λ reading. Some reading.mark) self.now) }
     {
         self.runs.as_slice()
+    }
+
+    /// The value of each in millionths, or 0 if it has no value.
+    pub fn millionths(&self) -> &[i64]
+        ensures { result.now ≡ map (λ reading. unwrap_or reading.value (pos 0)) self.now }
+    {
+        self.millionths.as_slice()
+    }
+
+    /// A copy of each, in order. Takes memory only if there is at least one.
+    pub fn to_vec(&self, alloc: Global) -> Result<Vec<Reading>, AllocError>
+        ensures value { IfOk result (λ readings. readings.items ≡ self.now) }
+        ensures memory { OnErr result (0 < length self.now) }
+    {
+        let mut readings = Vec::with_capacity(alloc, self.len())?;
+        for at in 0..self.len() {
+            readings.push(self.reading(at)?)?;
+        }
+        Ok(readings)
     }
 
     /// A copy of all of them. Takes memory only if there is at least one.

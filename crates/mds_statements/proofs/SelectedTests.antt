@@ -40,16 +40,16 @@ abbrev Ascend : List SelectedDay → Type 0
 Ascend days = AllPairs (λ a b. a.date < b.date) days
 
 day_parts : (last : Option SelectedDay) (day : SelectedDay) → day_follows last day ≡ true → ComesAfter last day × IsWhole day
-day_parts None day e = (tt, eqb-true (length day.readings.items) (count_of day.length) e)
+day_parts None day e = (tt, eqb-true (length day.readings) (count_of day.length) e)
 day_parts (Some before) day e =
     let parts = and_parts (ltb before.date day.date) (has_all day) e in
-    (ltb-true before.date day.date parts.0, eqb-true (length day.readings.items) (count_of day.length) parts.1)
+    (ltb-true before.date day.date parts.0, eqb-true (length day.readings) (count_of day.length) parts.1)
 
 day_from : (last : Option SelectedDay) (day : SelectedDay) → ComesAfter last day → IsWhole day → day_follows last day ≡ true
-day_from None day after whole = eq-eqb (length day.readings.items) (count_of day.length) whole
+day_from None day after whole = eq-eqb (length day.readings) (count_of day.length) whole
 day_from (Some before) day after whole =
     and_from (ltb before.date day.date) (has_all day) (lt-ltb before.date day.date after)
-    (eq-eqb (length day.readings.items) (count_of day.length) whole)
+    (eq-eqb (length day.readings) (count_of day.length) whole)
 
 -- what comes after a day comes after those before it
 later_day : (last : Option SelectedDay) (day next : SelectedDay) → ComesAfter last day → day.date < next.date → ComesAfter last next

@@ -18,7 +18,7 @@ stream_cmp a b = ordering_then (slice_cmp nat_cmp a.nmi b.nmi) (slice_cmp nat_cm
 
 -- a day has a reading for each interval
 abbrev pub IsWhole : SelectedDay → Type 0
-IsWhole day = length day.readings.items ≡ count_of day.length
+IsWhole day = length day.readings ≡ count_of day.length
 
 -- the days of all streams, stream by stream
 abbrev pub days_of : List SelectedStream → List SelectedDay

@@ -8,7 +8,7 @@ use Rattle.mds_statements.specs.declared.selected.SelectedStream.{SelectedStream
 
 -- a day has a reading for each interval
 abbrev pub has_all : SelectedDay → Bool
-has_all day = length day.readings.items == count_of day.length
+has_all day = length day.readings == count_of day.length
 
 -- a day comes after the last one, and has a reading for each interval
 abbrev pub day_follows : Option SelectedDay → SelectedDay → Bool

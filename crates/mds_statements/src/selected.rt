@@ -1,7 +1,8 @@
 //! The parts of a selection: streams, and days of streams.
 
 use mds_quantity::Unit;
-use mds_terms::{Day, Details, Length, Moment, Reading, Stream};
+use mds_runs::DayReadings;
+use mds_terms::{Day, Details, Length, Moment, Stream};
 
 /// A selected day.
 #[derive(Drop)]
@@ -14,7 +15,7 @@ pub struct SelectedDay {
     /// When its readings were updated.
     pub update: Moment,
     /// One for each interval, in order.
-    pub readings: Vec<Reading>,
+    pub readings: DayReadings,
 }
 
 /// A stream and its selected days, which may be none.

@@ -1,9 +1,8 @@
-use Rattle.std.proofs.Common.{option_map, arith}
+use Rattle.std.proofs.Common.{option_map}
 use Rattle.std.proofs.lemmas.Result.{on_ok_weaker, err_from_is_err_and, on_err_weaker}
 use Rattle.mds_export.proofs.Writes.{placed_written}
 use Rattle.mds_quantity.proofs.Front.{on_err_from}
 use Rattle.mds_export.proofs.Begun.{begun_after}
-use Rattle.mds_export.proofs.Counts.{count_small}
 use Rattle.mds_export.proofs.writer.write_placed.Goals as goal
 
 pub returns-clause-done : goal.returns-clause-done
@@ -22,9 +21,6 @@ pub returns-in_err-write_new_details-clause-grown : goal.returns-in_err-write_ne
 returns-in_err-write_new_details-clause-grown c =
     on_err_from c.from_residual.result _
     (c.in_err-write_new_details.ensures.grown)
-
-pub write_readings-requires : goal.write_readings-requires
-write_readings-requires c = omega (arith, c.requires, (count_small c.args.day.now.length c.minutes.ensures.known).1)
 
 pub returns-clause-grown : goal.returns-clause-grown
 returns-clause-grown c =

@@ -1,12 +1,9 @@
-use Rattle.std.proofs.Common.{length, ◌-◌, ◌≤◌}
-use Rattle.mds_export.proofs.Stretches.{RunsSoFar}
+use Rattle.std.proofs.Common.{List, ℕ, map, take}
+use Rattle.mds_quantity.specs.Append.{Appends}
+use Rattle.mds_export.specs.Exports.{AreInTurn, run_row}
+use Rattle.mds_export.specs.WriterSteps.{IsWritten}
 use Rattle.mds_export.proofs.writer.write_runs.Given as goal
 
-abbrev pub invariant-loop-start : goal.invariant-loop-start
-invariant-loop-start l = record {
-  so_far : RunsSoFar l.readings l.start l.initial.out.items l.out.items;
-  within : l.start ≤ length l.readings;
-}
-
-abbrev pub decreases-loop-start : goal.decreases-loop-start
-decreases-loop-start l = length l.readings - l.start
+abbrev pub invariant-loop-run : goal.invariant-loop-run
+invariant-loop-run l = (text : List ℕ) × AreInTurn IsWritten (map run_row (take l.run-index l.runs)) text
+    × Appends l.initial.out.items l.out.items text

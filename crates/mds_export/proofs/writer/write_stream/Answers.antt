@@ -4,9 +4,6 @@ use Rattle.mds_export.proofs.Begun.{begun_after}
 use Rattle.mds_export.proofs.Writes.{stream_step}
 use Rattle.std.proofs.lemmas.Result.{err_from_is_err_and}
 use Rattle.std.proofs.lemmas.List.{append-nil, take_all}
-use Rattle.std.specs.List.{All}
-use Rattle.std.proofs.lemmas.List.Elements.{All-get_or}
-use Rattle.mds_statements.specs.Selected.{IsWhole}
 use Rattle.mds_quantity.specs.Append.{Appends}
 use Rattle.mds_export.specs.Placed.{placed_after}
 use Rattle.mds_export.specs.WriterSteps.{AreWritten}
@@ -40,9 +37,3 @@ returns-clause-done c =
     let within : length days ≤ c.loop-day.day-index = rw c.deref-day-items.ensures.value at c.loop-day-test.false in
     subst (λ (days : List SelectedDay). (text : List ℕ) × AreWritten (placed_after c.args.selected.now None days) text × Appends c.args.out.now.items c.loop-day.out.items text)
     (take_all c.loop-day.day-index days within) c.loop-day.invariant.done
-
-pub write_placed-requires : goal.write_placed-requires
-write_placed-requires c =
-    let days = c.deref-day-items.result.now in
-    let whole : All IsWhole days = subst (All IsWhole) (sym c.deref-day-items.ensures.value) c.requires in
-    subst IsWhole (sym c.day-item.is) (All-get_or IsWhole days c.loop-day.day-index c.day-item.result c.loop-day-test.true whole)

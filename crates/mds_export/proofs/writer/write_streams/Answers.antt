@@ -1,4 +1,4 @@
-use Rattle.mds_export.proofs.Writes.{streams_step, whole_here}
+use Rattle.mds_export.proofs.Writes.{streams_step}
 use Rattle.std.proofs.Common.{List, ℕ, [], refl, sym, subst, arith}
 use Rattle.std.proofs.lemmas.Result.{err_from_is_err_and}
 use Rattle.mds_quantity.proofs.Front.{on_err_from}
@@ -9,10 +9,6 @@ use Rattle.mds_export.specs.Placed.{placed_days}
 use Rattle.mds_export.specs.WriterSteps.{AreWritten}
 use Rattle.mds_statements.specs.declared.selected.SelectedStream.{SelectedStream}
 use Rattle.mds_export.proofs.writer.write_streams.Goals as goal
-
-pub write_stream-requires : goal.write_stream-requires
-write_stream-requires c =
-    whole_here c.args.streams.now c.loop-selected.selected-index c.selected-item.result c.loop-selected-test.true c.selected-item.is c.requires
 
 pub loop-selected-preserved : goal.loop-selected-preserved
 loop-selected-preserved c =
