@@ -9,14 +9,17 @@ use mds_terms::{Day, Length, Moment, Reading, Stream};
 use std::alloc::Global;
 
 /// Half-hourly readings of quality A: all are 1 except the third.
-pub(crate) fn readings_of(alloc: Global, third: &str) -> Option<Vec<Reading>> {
+pub(crate) fn readings_of(alloc: Global, third: &str) -> Option<DayReadings> {
     let mut readings = Vec::new(alloc);
     for i in 0..48 {
         let value = if i == 2 { third } else { "1" };
         let reading = Reading::read(alloc, b"A", b"", b"", value.as_bytes()).ok()??;
         readings.push(reading).ok()?;
     }
-    Some(readings)
+    if readings.len() != 48 {
+        return None;
+    }
+    DayReadings::of(alloc, &readings).ok()
 }
 
 /// What a line claims of a half-hourly day, under an update in seconds.
@@ -26,10 +29,6 @@ fn claim_of(alloc: Global, line: u64, seconds: i64, third: &str) -> Option<Claim
     let length = Length::from_minutes(30)?;
     let update = Moment::from_seconds(seconds)?;
     let readings = readings_of(alloc, third)?;
-    if readings.len() != 48 {
-        return None;
-    }
-    let readings = DayReadings::of(alloc, &readings).ok()?;
     if readings.len() != length.count() {
         return None;
     }

@@ -3,7 +3,6 @@
 use crate::versions::readings_of;
 use mds_export::{DayRow, DetailsRow, HeaderRow, Row, RunRow, write_record};
 use mds_quantity::Unit;
-use mds_runs::DayReadings;
 use mds_terms::{Day, Details, Length, Mark, Moment, PrintableText, Stream};
 use std::alloc::Global;
 
@@ -16,7 +15,7 @@ fn rows_of(alloc: Global, name: PrintableText<'_>) -> Option<Vec<u8>> {
     let length = Length::from_minutes(30)?;
     let details = Details::read(alloc, b"E1", b"1", b"N1", b"01009", b"").ok()??;
     let mark = Mark::read(alloc, b"F14", b"53", b"").ok()??;
-    let readings = DayReadings::of(alloc, &readings_of(alloc, "2")?).ok()?;
+    let readings = readings_of(alloc, "2")?;
     let header = HeaderRow {
         moment,
         sender: name,
