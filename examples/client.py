@@ -68,4 +68,9 @@ def main(document, address, operation, *values):
 
 
 if __name__ == "__main__":
-    main(*sys.argv[1:]) if len(sys.argv) > 3 else sys.exit(__doc__)
+    if sys.argv[1:] in (["-h"], ["--help"]):
+        print(__doc__.strip())
+    elif len(sys.argv) > 3:
+        main(*sys.argv[1:])
+    else:
+        sys.exit(__doc__)

@@ -238,7 +238,10 @@ def line_of(version):
 
 
 def main(words):
-    if len(words) != 1 or words[0] in ("-h", "--help"):
+    if words in (["-h"], ["--help"]):
+        print(__doc__.strip())
+        return 0
+    if len(words) != 1:
         print(__doc__, file=sys.stderr)
         return 2
     problems = []

@@ -126,5 +126,10 @@ def work(redis, stream, name, url, user, password):
 
 
 if __name__ == "__main__":
+    if sys.argv[1:] in (["-h"], ["--help"]):
+        print(__doc__)
+        sys.exit(0)
+    if len(sys.argv) != 6:
+        sys.exit(__doc__)
     path, stream, name, url, user = sys.argv[1:]
     work(Redis(path), stream, name, url, user, os.environ["STORE_PASSWORD"])

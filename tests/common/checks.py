@@ -11,6 +11,10 @@ import sys
 import threading
 import traceback
 
+if sys.argv[1:] in (["-h"], ["--help"]):
+    print(sys.modules["__main__"].__doc__.strip())
+    sys.exit(0)
+
 ROOT = os.path.dirname(os.path.dirname(os.path.dirname(os.path.abspath(__file__))))
 SCRIPT = os.path.relpath(os.path.abspath(sys.argv[0]), ROOT)
 os.chdir(ROOT)

@@ -55,4 +55,7 @@ def main():
 
 
 if __name__ == "__main__":
-    main()
+    if len(sys.argv) == 2 and sys.argv[1] not in ("-h", "--help"):
+        main()
+    else:
+        print(__doc__.strip())
