@@ -97,13 +97,18 @@ fn without_words(error: &io::Error) -> Outcome
 
 /// Prints the meaning of the code that words name, or without words of all codes.
 fn explain(rt: &HostRuntime, words: &[&str]) -> Outcome {
-    let Ok(code) = words.join(rt.alloc(), " ") else {
-        return Outcome::Unavailable;
-    };
+    match words.join(rt.alloc(), " ") {
+        Ok(code) => explain_code(rt, code.as_str()),
+        Err(_) => Outcome::Unavailable,
+    }
+}
+
+/// Prints the meaning of a code, or if it is empty of all codes.
+fn explain_code(rt: &HostRuntime, code: &str) -> Outcome {
     if code.is_empty() {
         return tell(rt, EXPLANATIONS, Outcome::Done);
     }
-    let Some(section) = section_of(EXPLANATIONS, code.as_str()) else {
+    let Some(section) = section_of(EXPLANATIONS, code) else {
         return tell(rt, NO_SUCH_CODE, Outcome::Usage);
     };
     let section = section.trim_end();

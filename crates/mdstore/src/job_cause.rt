@@ -21,14 +21,18 @@ pub(crate) fn job_cause(alloc: Global, bytes: &[u8]) -> Result<String, AllocErro
     let Ok(text) = str::from_utf8(bytes) else {
         return String::from_str(alloc, "not UTF-8");
     };
-    let value = match Value::from_str(alloc, text) {
-        Ok(value) => value,
-        Err(error) if error.is_memory() => return String::from_str(alloc, "memory ran out"),
+    match Value::from_str(alloc, text) {
+        Ok(value) => value_cause(alloc, &value),
+        Err(error) if error.is_memory() => String::from_str(alloc, "memory ran out"),
         Err(error) => {
             let (line, column) = (error.line(), error.column());
-            return format!(in alloc; "not JSON at line {line} column {column}");
+            format!(in alloc; "not JSON at line {line} column {column}")
         }
-    };
+    }
+}
+
+/// What is wrong with a value that is no job.
+fn value_cause(alloc: Global, value: &Value) -> Result<String, AllocError> {
     let Some(members) = value.as_object() else {
         return String::from_str(alloc, "not a JSON object");
     };
@@ -38,7 +42,7 @@ pub(crate) fn job_cause(alloc: Global, bytes: &[u8]) -> Result<String, AllocErro
     if let Some(key) = missing_key(members) {
         return format!(in alloc; "the key {key:?} is missing");
     }
-    wrong_value(alloc, &value)
+    wrong_value(alloc, value)
 }
 
 /// The first key that no job has.

@@ -2,7 +2,8 @@
 
 use crate::cause::Cause;
 use crate::damage::damage_in;
-use crate::store_file::LockedFiles;
+use sqlite::Files;
+use sqlite_disk::Disk;
 use std::fs::OpenOptions;
 use std::io::{ErrorKind, Read};
 use std::os::unix::fs::{MetadataExt, OpenOptionsExt};
@@ -124,12 +125,12 @@ impl Place {
 
     /// Removes the log, which is empty or whose content is all in the file. While the files are locked nobody else
     /// uses it. If it can't be removed, that does no harm.
-    pub(crate) fn remove_log(&self, rt: &HostRuntime, _locked: &LockedFiles) {
+    pub(crate) fn remove_log<D: Disk>(&self, rt: &HostRuntime, _locked: &Files<D>) {
         let _ = fs::remove_file(rt, self.log.as_str());
     }
 
     /// Removes what the call made, while the files are locked.
-    pub(crate) fn restore(&self, rt: &HostRuntime, locked: &LockedFiles) {
+    pub(crate) fn restore<D: Disk>(&self, rt: &HostRuntime, locked: &Files<D>) {
         // decides: what happens to the log beside a store?
         match self.standing() {
             Standing::Nothing => {
@@ -141,7 +142,7 @@ impl Place {
     }
 
     /// Removes a log that the call made, if it holds no page. One that holds a page may be needed.
-    pub(crate) fn remove_empty_log(&self, rt: &HostRuntime, locked: &LockedFiles) {
+    pub(crate) fn remove_empty_log<D: Disk>(&self, rt: &HostRuntime, locked: &Files<D>) {
         if self.log_bytes.is_none() && is_shorter(rt, self.log.as_str(), SHORTEST_LOG) {
             self.remove_log(rt, locked);
         }

@@ -1,6 +1,6 @@
 //! A store in a file, which this process has for itself while it is open.
 
-ghost use Rattle.std.specs.Prelude.{◌≡◌};
+ghost use Rattle.std.specs.Prelude.{◌≡◌, IsTrue};
 ghost use Rattle.mdstore.specs.Refusals.{of_migration, of_store};
 
 use crate::cause::Cause;
@@ -11,7 +11,8 @@ use mds_desk::{Outcome, Status};
 use mds_keeper::Keeper;
 use mds_migrate::{MigrateFault, Migrated, migrate_all};
 use mds_store::{StoreFault, adopt, create};
-use sqlite::{Alter, Connection, Error, FileFrom, FileStore, Files, Leftover, Options, Wary};
+use sqlite::{Alter, Connection, Error, FileStore, Files, Options, Wary};
+use sqlite_disk::Disk;
 use sqlite_std_file::OpenError;
 use std::hash::{BuildHasher, RandomState};
 use std::io;
@@ -26,9 +27,6 @@ pub(crate) trait Task {
     /// Does it, and returns the keeper and the outcome of the run.
     fn perform<K: Keeper>(self, rt: &HostRuntime, keeper: K, why: &mut Why) -> (K, Outcome);
 }
-
-/// The file of a database and its log, which are locked until they are dropped.
-pub(crate) type LockedFiles = Files<FileFrom<Wary>>;
 
 /// Makes a store where there is no file, or in a file that has no bytes or is an empty database. If sums are asked for, such a database must
 /// have them: pages that were made without sums get none.
@@ -257,8 +255,7 @@ fn cause_of(fault: StoreFault, other: Cause) -> Cause {
 }
 
 /// Opens the database at a path, does something with it, and closes it. A new one gets sums if that is asked for. The header of any other
-/// says whether it has them. If it can't be opened, what the attempt made is removed. A torn write may leave anything on the disk, so each
-/// commit syncs twice.
+/// says whether it has them. A torn write may leave anything on the disk, so each commit syncs twice.
 fn in_database<T: DatabaseTask + Drop>(
     rt: &HostRuntime,
     path: &str,
@@ -268,24 +265,59 @@ fn in_database<T: DatabaseTask + Drop>(
     why: &mut Why,
 ) -> Outcome {
     // decides: U1: the file of the store can't be opened
-    match open_database(rt, path, new_has_sums) {
+    // SQLite doesn't treat these as paths.
+    if path == ":memory:" || path.starts_with("file:") {
+        return without_files(rt, place, Cause::NoPath, why);
+    }
+    match sqlite_std_file::open(rt, path, Wary) {
+        Ok(files) => in_files(rt, place, files, new_has_sums, task, why),
+        // Another process has the file. Whatever that process finds there is its own.
+        Err(OpenError::Busy) => {
+            why.put(Cause::InUse);
+            Outcome::Unavailable
+        }
+        Err(error) => without_files(rt, place, of_opening(rt, path, error), why),
+    }
+}
+
+/// The outcome if the files of a database can't be opened. What the attempt made is removed.
+fn without_files(rt: &HostRuntime, place: &Place, cause: Cause, why: &mut Why) -> Outcome {
+    why.put(cause);
+    place.take_away_file(rt);
+    Outcome::Unavailable
+}
+
+/// Opens the database in files that are locked until they are dropped, does something with it, and closes it. If it can't be opened, what the
+/// attempt made is removed. This does what the library's open by a path does, except for the count of kept pages. It is written over any disk,
+/// so that its proof doesn't load what the library says of files.
+fn in_files<D: Disk + Drop, T: DatabaseTask + Drop>(
+    rt: &HostRuntime,
+    place: &Place,
+    files: Files<D>,
+    new_has_sums: bool,
+    task: T,
+    why: &mut Why,
+) -> Outcome
+    requires log { IsTrue (D.Disk.is_usable files.log) }
+    requires db { IsTrue (D.Disk.is_usable files.db) }
+{
+    let random = match RandomState::new(rt) {
+        Ok(random) => random,
+        Err(error) => {
+            drop(files);
+            return without_files(rt, place, Cause::File(error), why);
+        }
+    };
+    let mut options = Options::new(random.hash_one(&0u8));
+    options.cache_pages = PAGES_KEPT;
+    match Connection::open_files_with(rt.alloc(), files, options, new_has_sums) {
         Ok(conn) => {
             let (conn, outcome) = task.run(rt, conn, why);
             close(rt, place, conn, outcome, why)
         }
-        Err(OpenFault::Database(error, left)) => {
+        Err((error, left)) => {
             put_damage(rt, place, error, why);
             place.restore(rt, &left.into_files());
-            Outcome::Unavailable
-        }
-        // Another process has the file. Whatever that process finds there is its own.
-        Err(OpenFault::Busy) => {
-            why.put(Cause::InUse);
-            Outcome::Unavailable
-        }
-        Err(OpenFault::Files(cause)) => {
-            why.put(cause);
-            place.take_away_file(rt);
             Outcome::Unavailable
         }
     }
@@ -300,43 +332,6 @@ fn put_damage(rt: &HostRuntime, place: &Place, error: Error, why: &mut Why) {
         if let Ok(Some(found)) = place.damage(rt) {
             why.put(found);
         }
-    }
-}
-
-/// Why a database couldn't be opened.
-enum OpenFault {
-    /// Another process uses its file.
-    Busy,
-    /// Its files can't be opened.
-    Files(Cause),
-    /// They hold no readable database. They are left as they are.
-    Database(Error, Leftover<FileFrom<Wary>>),
-}
-
-/// Opens the database at a path. It does what the library's open by a path does, except for the count of kept pages.
-fn open_database(
-    rt: &HostRuntime,
-    path: &str,
-    new_has_sums: bool,
-) -> Result<Connection<FileStore<FileFrom<Wary>>>, OpenFault> {
-    // SQLite doesn't treat these as paths.
-    if path == ":memory:" || path.starts_with("file:") {
-        return Err(OpenFault::Files(Cause::NoPath));
-    }
-    let files = match sqlite_std_file::open(rt, path, Wary) {
-        Ok(files) => files,
-        Err(OpenError::Busy) => return Err(OpenFault::Busy),
-        Err(error) => return Err(OpenFault::Files(of_opening(rt, path, error))),
-    };
-    let random = match RandomState::new(rt) {
-        Ok(random) => random,
-        Err(error) => return Err(OpenFault::Files(Cause::File(error))),
-    };
-    let mut options = Options::new(random.hash_one(&0u8));
-    options.cache_pages = PAGES_KEPT;
-    match Connection::open_files_with(rt.alloc(), files, options, new_has_sums) {
-        Ok(conn) => Ok(conn),
-        Err((error, left)) => Err(OpenFault::Database(error, left)),
     }
 }
 
@@ -359,10 +354,10 @@ fn of_opening(rt: &HostRuntime, path: &str, error: OpenError) -> Cause {
 
 /// Closes a database, so that all of it is in its one file. If that fails, the file and its log together are the store, and the outcome of
 /// the run stays the same.
-fn close(
+fn close<D: Disk + Drop>(
     rt: &HostRuntime,
     place: &Place,
-    conn: Connection<FileStore<FileFrom<Wary>>>,
+    conn: Connection<FileStore<D>>,
     outcome: Outcome,
     why: &mut Why,
 ) -> Outcome {
@@ -397,7 +392,7 @@ fn put_unless_known(cause: Cause, outcome: Outcome, why: &mut Why) {
 }
 
 /// What the failed calls on the files of a database met.
-fn cause_in(files: &LockedFiles) -> Cause {
+fn cause_in<D: Disk>(files: &Files<D>) -> Cause {
     let met = files.tally();
     if met.refused > 0 {
         Cause::DiskFull
